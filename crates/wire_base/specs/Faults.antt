@@ -1,0 +1,16 @@
+-- What a reader answers, beside what a definition of reading gives.
+use Rattle.std.specs.Prelude.{◌≡◌, Result, Ok, Err}
+use Rattle.wire_spec.specs.Octets as spec
+use Rattle.wire_base.specs.declared.errors.ParseError.{ParseError}
+use Rattle.wire_base.specs.declared.errors.ParseError.TheVariants.{ShortInput, Form, NoMemory}
+
+-- the error is the fault that reading gives; want of memory is no fault of the data, and never comes
+abbrev pub IsFaultOf : {Y : Type 0} → ParseError → Result Y spec.Fault → Type 0
+IsFaultOf ShortInput read = read ≡ Err spec.Short
+IsFaultOf Form read = read ≡ Err spec.Form
+IsFaultOf NoMemory read = ⊥
+
+-- the answer, seen by `view`, is what reading gives
+abbrev pub Gives : {X Y : Type 0} → (X → Y) → Result X ParseError → Result Y spec.Fault → Type 0
+Gives view (Ok x) read = read ≡ Ok (view x)
+Gives view (Err error) read = IsFaultOf error read

@@ -1,0 +1,89 @@
+//! Why octets could not be read or written.
+
+ghost use Rattle.std.specs.Prelude.{◌≡◌, ◌≤◌, ◌<◌, OnOk, OnErr};
+ghost use Rattle.wire_base.specs.declared.errors.ParseError.TheVariants as errors;
+
+use std::alloc::{AllocError, AllocFailed};
+use thiserror::Error;
+
+/// The memory that a call needs isn't there.
+#[derive(Clone, Copy, Debug, PartialEq, Eq, Error)]
+#[error("want of memory")]
+pub struct NoMemory;
+
+/// Octets are missing.
+#[derive(Clone, Copy, Debug, PartialEq, Eq, Error)]
+#[error("short input")]
+pub struct ShortInput;
+
+/// Record data has more than 65,535 octets.
+#[derive(Clone, Copy, Debug, PartialEq, Eq, Error)]
+#[error("long record data")]
+pub struct LongRecordData;
+
+/// Why wire data could not be read.
+#[derive(Clone, Copy, Debug, PartialEq, Eq, Error)]
+pub enum ParseError {
+    /// Octets are missing.
+    #[error("short input")]
+    ShortInput,
+    /// An octet, a length, a pointer or two keys are not allowed.
+    #[error("form error")]
+    Form,
+    /// The memory for a copy isn't there. Views never answer it.
+    #[error("want of memory")]
+    NoMemory,
+}
+
+impl From<AllocError> for NoMemory {
+    fn from(_error: AllocError) -> NoMemory {
+        NoMemory
+    }
+}
+
+impl<T: Drop> From<AllocFailed<T>> for NoMemory {
+    fn from(_error: AllocFailed<T>) -> NoMemory {
+        NoMemory
+    }
+}
+
+impl From<ShortInput> for ParseError {
+    ghost from_gives = { λ _ error. error ≡ errors.ShortInput };
+
+    fn from(_error: ShortInput) -> ParseError {
+        ParseError::ShortInput
+    }
+}
+
+impl From<NoMemory> for ParseError {
+    ghost from_gives = { λ _ error. error ≡ errors.NoMemory };
+
+    fn from(_error: NoMemory) -> ParseError {
+        ParseError::NoMemory
+    }
+}
+
+/// Data that is too long is no form of record data.
+impl From<LongRecordData> for ParseError {
+    ghost from_gives = { λ _ error. error ≡ errors.Form };
+
+    fn from(_error: LongRecordData) -> ParseError {
+        ParseError::Form
+    }
+}
+
+impl LongRecordData {
+    /// The most octets of record data (RFC 1035, section 3.2.1: RDLENGTH has 16 bits).
+    pub const MAX_LEN: usize = 65535;
+
+    /// Tests a length in octets. Refused exactly over 65,535.
+    pub fn check_len(len: usize) -> Result<(), LongRecordData>
+        ensures ok { OnOk result (len ≤ 65535) }
+        ensures long { OnErr result (65535 < len) }
+    {
+        if len > LongRecordData::MAX_LEN {
+            return Err(LongRecordData);
+        }
+        Ok(())
+    }
+}
