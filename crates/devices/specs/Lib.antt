@@ -1,0 +1,5 @@
+pub mod Counters
+pub mod Faults
+pub mod Memory
+pub mod Reading
+pub mod Takes

@@ -1,0 +1,93 @@
+//! Reads a whole input, and writes a whole report.
+ghost use Rattle.std.specs.Prelude.{◌≡◌, ℕ, ◌+◌, ◌≤◌, List, length, take, IfOk, IfErr, OnOk, is_some, vec_len};
+ghost use Rattle.std.specs.Io.KnownBytes.{Appends, Consumes, IsAtEnd};
+ghost use Rattle.devices.specs.Faults.{HasCause};
+ghost use Rattle.devices.specs.Reading.{ReadCause};
+ghost use Rattle.devices.specs.Takes.{TakesAtMost, TakesFront};
+ghost use Rattle.devices.specs.declared.transfer.ReadError.TheVariants as errors;
+
+use crate::device::{Failed, Sink, Source};
+use std::alloc::{AllocError, Global};
+use thiserror::Error;
+
+/// The most octets that an input may have.
+pub const MAX_INPUT: usize = 16_777_216;
+
+/// How many octets a read is asked for.
+pub const PIECE: usize = 65_536;
+
+/// Why an input is not read.
+#[derive(Clone, Copy, Debug, PartialEq, Eq, Error)]
+pub enum ReadError {
+    /// The source failed.
+    #[error("device failed")]
+    Failed,
+    /// There is no memory for the input.
+    #[error("want of memory")]
+    NoMemory,
+}
+
+impl From<Failed> for ReadError {
+    ghost from_gives = { λ _ error. error ≡ errors.Failed };
+
+    fn from(_failed: Failed) -> ReadError {
+        ReadError::Failed
+    }
+}
+
+impl From<AllocError> for ReadError {
+    ghost from_gives = { λ _ error. error ≡ errors.NoMemory };
+
+    fn from(_refused: AllocError) -> ReadError {
+        ReadError::NoMemory
+    }
+}
+
+/// Takes the octets that `source` has left. It stops at their end, or as soon as more than
+/// `MAX_INPUT` of them were taken, which is an input too long.
+///
+/// `Failed` comes where a read fails, and `NoMemory` where there is no memory for the octets. Some
+/// octets may then have been taken from the front of what was left.
+pub fn read_input<S: Source>(alloc: Global, source: &mut S) -> Result<Vec<u8>, ReadError>
+    ensures taken { IfOk result (λ input.
+        Consumes (S.left source.old) (S.left source.new) input.items) }
+    ensures end { IfOk result (λ input. vec_len input ≤ MAX_INPUT → IsAtEnd (S.left source.new)) }
+
+    // Each read but the last begins with at most `MAX_INPUT` octets taken.
+    ensures bound { IfOk result (λ input. vec_len input ≤ MAX_INPUT + PIECE) }
+    ensures most { TakesAtMost (S.left source.old) (S.left source.new) (MAX_INPUT + PIECE) }
+    ensures front { TakesFront (S.left source.old) (S.left source.new) }
+    ensures tells { is_some (S.left source.new) ≡ is_some (S.left source.old) }
+
+    ensures later { S.faults source.old ≤ S.faults source.new }
+    ensures count { OnOk result (S.faults source.new ≡ S.faults source.old) }
+    ensures cause { IfErr result (λ error.
+        ReadCause error (S.faults source.old) (S.faults source.new)) }
+{
+    let mut input = Vec::new(alloc);
+    let mut piece = [0; PIECE];
+    while input.len() <= MAX_INPUT {
+        let count = source.read(&mut piece)?;
+        if count == 0 {
+            break;
+        }
+        input.extend_from_slice(&piece[..count])?;
+    }
+    Ok(input)
+}
+
+/// Writes `bytes`. It fails where a write does, and then the sink holds a front of them behind what
+/// it held, and no further write is made.
+#[tactic(auto, using(crate::proofs::Pieces::appends_next))]
+pub fn write_all<K: Sink>(sink: &mut K, bytes: &[u8]) -> Result<(), Failed>
+    ensures whole { OnOk result (Appends (K.held sink.old) (K.held sink.new) bytes.now) }
+    ensures part { (count : ℕ) × Appends (K.held sink.old) (K.held sink.new) (take count bytes.now) }
+    ensures tells { is_some (K.held sink.new) ≡ is_some (K.held sink.old) }
+    ensures cause { HasCause (K.faults sink.old) (K.faults sink.new) result }
+{
+    let mut written = 0;
+    while written < bytes.len() {
+        written += sink.write(&bytes[written..])?;
+    }
+    Ok(())
+}
