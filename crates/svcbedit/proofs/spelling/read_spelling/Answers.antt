@@ -1,0 +1,12 @@
+-- An input that isn't too long has no more lines than octets, and one.
+use Rattle.std.proofs.Common.{◌≡◌, length, drop, ap, ◌∙◌, arith}
+use Rattle.std.proofs.lemmas.List.{length-drop}
+use Rattle.svcbedit.specs.Lines.{lines}
+use Rattle.svcbedit.proofs.LineLemmas.{length-lines}
+use Rattle.svcbedit.proofs.spelling.read_spelling.Goals as goal
+
+pub push_lines-requires : goal.push_lines-requires
+push_lines-requires c =
+    let left : length c.message_line.new.input ≡ length (drop 1 (drop 1 (lines c.args.input.now))) =
+    ap length (c.message_line.ensures.rest ∙ ap (drop 1) (c.place_line.ensures.rest ∙ ap (drop 1) c.new-lines.ensures)) in
+    omega (arith, left, length-lines c.args.input.now, length-drop 1 (drop 1 (lines c.args.input.now)), length-drop 1 (lines c.args.input.now))

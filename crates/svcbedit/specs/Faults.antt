@@ -1,0 +1,20 @@
+-- The faults of form in an input.
+use Rattle.std.specs.Prelude.{ℕ, ◌+◌, ◌^◌, nat_lt, nat_le, if◌then◌else◌, List, ◌++◌, Option, Some, None, codes}
+use Rattle.std.specs.Fmt.{decimal}
+use Rattle.svcbedit.specs.declared.place.Place.{Place}
+use Rattle.svcbedit.specs.declared.spelling.InputFault.{InputFault}
+use Rattle.svcbedit.specs.declared.spelling.InputFault.TheVariants.{TooLong, BadLine, PlaceOutsideMessage, LimitTooLarge}
+
+-- what a report says of a fault
+abbrev pub fault_text : InputFault → List ℕ
+fault_text TooLong = codes "input too long"
+fault_text (BadLine number) = codes "bad line " ++ decimal number
+fault_text PlaceOutsideMessage = codes "place outside message"
+fault_text LimitTooLarge = codes "limit too large"
+
+-- the fault of a place in a message of so many octets, if it has one
+abbrev pub place_fault : Place → ℕ → Option InputFault
+place_fault place message_len =
+    if nat_lt message_len (place.start + place.len) then Some PlaceOutsideMessage
+    else if nat_le (2 ^ 31) place.limit then Some LimitTooLarge
+    else None

@@ -1,0 +1,12 @@
+pub mod Lines
+pub mod Numbers
+pub mod Places
+pub mod Pushes
+pub mod Faults
+pub mod Spelling
+pub mod SpellingView
+pub mod Report
+pub mod ReportView
+pub mod Words
+pub mod Stops
+pub mod Run

@@ -1,0 +1,24 @@
+-- The first line of an input of `edit`.
+use Rattle.std.specs.Prelude.{ℕ, Option, Some, None, List, [], ◌∷◌}
+use Rattle.svcbedit.specs.Lines.{words}
+use Rattle.svcbedit.specs.Numbers.{number_of}
+use Rattle.svcbedit.specs.declared.place.Place.{Place}
+
+-- the next step, where the step before it gave a value
+infixl 10 ◌>>=◌
+abbrev pub ◌>>=◌ : {A B : Type 0} → Option A → (A → Option B) → Option B
+Some x >>= f = f x
+None >>= f = None
+
+-- three numbers
+abbrev pub place_of_words : List (List ℕ) → Option Place
+place_of_words (start ∷ len ∷ limit ∷ []) = do
+  first ← number_of start
+  count ← number_of len
+  most ← number_of limit
+  Some (record { start = first; len = count; limit = most })
+place_of_words _ = None
+
+-- `START LEN LIMIT`
+abbrev pub place_of : List ℕ → Option Place
+place_of line = place_of_words (words line)

@@ -1,0 +1,44 @@
+-- The lines of an input of `edit` that push a value.
+use Rattle.std.specs.Prelude.{ℕ, Option, Some, None, List, [], ◌∷◌, length, nat_lt, nat_le, ◌==◌, if◌then◌else◌, codes}
+use Rattle.std.specs.Result.{result_ok}
+use Rattle.std.specs.Str.{bytes_eq}
+use Rattle.hex.specs.Hex.{decode_of}
+use Rattle.wire_spec.specs.Values.{Value, Unknown}
+use Rattle.svcbedit.specs.Lines.{words}
+use Rattle.svcbedit.specs.Numbers.{number_of}
+use Rattle.svcbedit.specs.Places.{◌>>=◌}
+
+-- the octets of an even count of hexadecimal digits, in either case
+abbrev pub octets_of : List ℕ → Option (List ℕ)
+octets_of text = result_ok (decode_of text)
+
+-- a number of at most 65,535
+abbrev pub key_of : List ℕ → Option ℕ
+key_of text = number_of text >>= λ key. if nat_le key 65535 then Some key else None
+
+-- one octet or more, and at most 65,535
+abbrev pub value_octets : List ℕ → Option (List ℕ)
+value_octets text = octets_of text >>= λ octets.
+    if length octets == 0 then None
+    else if nat_lt 65535 (length octets) then None
+    else Some octets
+
+-- the value of a key and of what follows it: hexadecimal, or nothing, where the value has no octets
+abbrev pub raw_value : ℕ → Option (List ℕ) → Option Value
+raw_value key None = Some (Unknown key [])
+raw_value key (Some hex) = value_octets hex >>= λ octets. Some (Unknown key octets)
+
+-- `KEY`, or `KEY HEX`
+abbrev pub raw_of_words : List (List ℕ) → Option Value
+raw_of_words (key ∷ []) = key_of key >>= λ number. raw_value number None
+raw_of_words (key ∷ hex ∷ []) = key_of key >>= λ number. raw_value number (Some hex)
+raw_of_words _ = None
+
+-- `raw`, and one of those
+abbrev pub push_of_words : List (List ℕ) → Option Value
+push_of_words [] = None
+push_of_words (word ∷ more) = if bytes_eq word (codes "raw") then raw_of_words more else None
+
+-- the value that a line pushes
+abbrev pub push_of : List ℕ → Option Value
+push_of line = push_of_words (words line)

@@ -1,0 +1,56 @@
+-- How the program ends.
+use Rattle.std.specs.Prelude.{◌≡◌, ◌<◌, ◌≤◌, ℕ, List, Option, Some, None, Result, Ok, Err, take, IfSome}
+use Rattle.std.specs.Option.{option_map}
+use Rattle.std.specs.Io.KnownBytes.{Appends, Keeps}
+use Rattle.svcbedit.specs.Report.{Answer, edited, no_command}
+use Rattle.svcbedit.specs.declared.words.Command.{Command}
+use Rattle.svcbedit.specs.declared.words.Command.TheVariants.{Edit}
+use Rattle.svcbedit.specs.declared.stop.Stop.{Stop}
+use Rattle.svcbedit.specs.declared.stop.Stop.TheVariants.{ReadFault, WriteFault, NoMemory}
+
+-- The answer that is due to a command, by what the source has left: none is known where the source doesn't tell.
+-- Words that are no command have an answer of their own.
+abbrev pub due : Option Command → Option (List ℕ) → Option Answer
+due None left = Some no_command
+due (Some Edit) left = option_map edited left
+
+-- the words name a command that reads the input
+abbrev pub ReadsInput : Option Command → Type 0
+ReadsInput None = ⊥
+ReadsInput (Some Edit) = Unit {0}
+
+-- the whole report was written
+abbrev pub Whole : Answer → Option (List ℕ) → Option (List ℕ) → Type 0
+Whole answer old new = Appends old new answer.report
+
+-- a front of the report was written
+abbrev pub Part : Answer → Option (List ℕ) → Option (List ℕ) → Type 0
+Part answer old new = (count : ℕ) × Appends old new (take count answer.report)
+
+-- The status, and what the sink holds, by the answer that is due.
+pub record Ends (status : ℕ) (answer : Option Answer) (old new : Option (List ℕ)) : Type 0 where
+  pub within : status ≤ 6
+  -- below 4: that answer's status and whole report
+  pub whole : status < 4 → IfSome answer (λ a. (status ≡ a.status) × Whole a old new)
+  -- a write failed: a front of its report
+  pub part : status ≡ 5 → IfSome answer (λ a. Part a old new)
+  -- a read failed, or memory was wanting: nothing
+  pub read_fault : status ≡ 4 → Keeps old new
+  pub no_memory : status ≡ 6 → Keeps old new
+
+-- what the sink holds where the program stops
+abbrev pub Stops : Stop → Option Answer → Option (List ℕ) → Option (List ℕ) → Type 0
+Stops ReadFault answer old new = Keeps old new
+Stops WriteFault answer old new = IfSome answer (λ a. Part a old new)
+Stops NoMemory answer old new = Keeps old new
+
+-- how a command ends, before there is a status for each stop
+abbrev pub Performs : Result ℕ Stop → Option Answer → Option (List ℕ) → Option (List ℕ) → Type 0
+Performs (Ok status) answer old new = (status < 4) × IfSome answer (λ a. (status ≡ a.status) × Whole a old new)
+Performs (Err stop) answer old new = Stops stop answer old new
+
+-- words that are no command stop the program only where a write failed
+abbrev pub IsWriteFault : Stop → Type 0
+IsWriteFault ReadFault = ⊥
+IsWriteFault WriteFault = Unit {0}
+IsWriteFault NoMemory = ⊥

@@ -1,0 +1,64 @@
+-- What an input of `edit` spells.
+use Rattle.std.specs.Prelude.{ℕ, ◌≡◌, ◌+◌, nat_lt, if◌then◌else◌, Option, Some, None, Result, Ok, Err, List, [], ◌∷◌, length, drop, slice_get, option_and_then}
+use Rattle.wire_spec.specs.Values.{Value}
+use Rattle.svcbedit.specs.Faults.{place_fault}
+use Rattle.svcbedit.specs.Lines.{lines}
+use Rattle.svcbedit.specs.Places.{place_of}
+use Rattle.svcbedit.specs.Pushes.{octets_of, push_of}
+use Rattle.svcbedit.specs.declared.spelling.InputFault.{InputFault}
+use Rattle.svcbedit.specs.declared.spelling.InputFault.TheVariants.{TooLong, BadLine}
+use Rattle.svcbedit.specs.declared.spelling.SpellError.{SpellError}
+use Rattle.svcbedit.specs.declared.spelling.SpellError.TheVariants.{Fault, NoMemory}
+
+-- a message, the place of the record data in it, a limit on the parameters, and the values that are pushed
+pub record Spelled : Type 0 where
+  pub message : List ℕ
+  pub start : ℕ
+  pub len : ℕ
+  pub limit : ℕ
+  pub pushes : List Value
+
+-- the next step, unless there is a fault
+infixl 10 ◌>>=◌
+abbrev pub ◌>>=◌ : {A B : Type 0} → Result A InputFault → (A → Result B InputFault) → Result B InputFault
+Ok x >>= f = f x
+Err fault >>= f = Err fault
+
+-- what the line of a number says; one that is missing or bad is a fault
+abbrev pub needed : {A : Type 0} → ℕ → Option A → Result A InputFault
+needed number (Some x) = Ok x
+needed number None = Err (BadLine number)
+
+-- a value for each of the lines, whose numbers begin with this one
+abbrev pub pushes_of : ℕ → List (List ℕ) → Result (List Value) InputFault
+pushes_of number [] = Ok []
+pushes_of number (line ∷ more) = do
+  push ← needed number (push_of line)
+  pushes ← pushes_of (number + 1) more
+  Ok (push ∷ pushes)
+
+-- no more steps where there is a fault
+abbrev pub unless : {A : Type 0} → Option InputFault → Result A InputFault → Result A InputFault
+unless (Some fault) next = Err fault
+unless None next = next
+
+-- line 1 is the place, line 2 the message in hexadecimal, and each other line a push
+abbrev pub spelled_lines : List (List ℕ) → Result Spelled InputFault
+spelled_lines all = do
+  place ← needed 1 (option_and_then place_of (slice_get all 0))
+  message ← needed 2 (option_and_then octets_of (slice_get all 1))
+  pushes ← unless (place_fault place (length message)) (pushes_of 3 (drop 2 all))
+  Ok (record { message = message; start = place.start; len = place.len; limit = place.limit; pushes = pushes })
+
+-- what an input spells, or its first fault
+abbrev pub spelled : List ℕ → Result Spelled InputFault
+spelled bytes = if nat_lt 16777216 (length bytes) then Err TooLong else spelled_lines (lines bytes)
+
+-- A reader of the code answers, seen by `view`, what a definition gives. Want of memory says nothing of the input.
+abbrev pub IsFault : {Y : Type 0} → SpellError → Result Y InputFault → Type 0
+IsFault (Fault fault) given = given ≡ Err fault
+IsFault NoMemory given = Unit {0}
+
+abbrev pub Gives : {X Y : Type 0} → (X → Y) → Result X SpellError → Result Y InputFault → Type 0
+Gives view (Ok x) given = given ≡ Ok (view x)
+Gives view (Err error) given = IsFault error given

@@ -1,0 +1,174 @@
+//! What an input of `edit` spells.
+ghost use Rattle.std.specs.Prelude.{◌≡◌, ◌+◌, ◌^◌, ◌<◌, ◌≤◌, List, [], length, drop, map, Some, IfOk, IfErr, OnOk, slice_get, option_and_then};
+ghost use Rattle.svcb_rdata.specs.AllValues.{value_of};
+ghost use Rattle.svcbedit.specs.Lines.{lines};
+ghost use Rattle.svcbedit.specs.Places.{place_of};
+ghost use Rattle.svcbedit.specs.Pushes.{octets_of};
+ghost use Rattle.svcbedit.specs.Faults.{fault_text, place_fault};
+ghost use Rattle.svcbedit.specs.Spelling.{needed, pushes_of, spelled, Gives};
+ghost use Rattle.svcbedit.specs.SpellingView.{spelled_view};
+ghost use Rattle.svcbedit.specs.declared.spelling.SpellError.TheVariants as errors;
+
+use crate::hexadecimal::octets_in;
+use crate::lines::Lines;
+use crate::place::{Place, place_in};
+use crate::pushes::push_in;
+use devices::MAX_INPUT;
+use std::alloc::{AllocFailed, Global};
+use std::fmt;
+use svcb_rdata::AllValues;
+use thiserror::Error;
+use wire_base::{NoMemory, Octets};
+
+/// The least limit that is too large.
+const LIMIT_END: u32 = 1 << 31;
+
+/// The number of the first line that pushes.
+const FIRST_PUSH: u64 = 3;
+
+/// A fault of form in an input.
+#[derive(Clone, Copy, Debug, PartialEq, Eq)]
+pub enum InputFault {
+    /// The input has more than 16,777,216 octets.
+    TooLong,
+    /// The line of this number, from 1 on, is missing or bad.
+    BadLine(u64),
+    /// The place ends behind the message.
+    PlaceOutsideMessage,
+    /// The limit is 2,147,483,648 or more.
+    LimitTooLarge,
+}
+
+impl fmt::Display for InputFault {
+    ghost output = { λ fault. Some (fault_text fault) };
+
+    fn fmt<W: fmt::Write>(&self, f: &mut fmt::Formatter<W>) -> fmt::Result {
+        match self {
+            InputFault::TooLong => write!(f, "input too long"),
+            InputFault::BadLine(number) => write!(f, "bad line {number}"),
+            InputFault::PlaceOutsideMessage => write!(f, "place outside message"),
+            InputFault::LimitTooLarge => write!(f, "limit too large"),
+        }
+    }
+}
+
+impl std::error::Error for InputFault {}
+
+/// Why an input can't be read.
+#[derive(Clone, Copy, Debug, PartialEq, Eq, Error)]
+pub enum SpellError {
+    /// The input has a fault.
+    #[error(transparent)]
+    Fault(InputFault),
+    /// There is no memory for what it spells.
+    #[error("want of memory")]
+    NoMemory,
+}
+
+impl From<InputFault> for SpellError {
+    ghost from_gives = { λ fault error. error ≡ errors.Fault fault };
+
+    fn from(fault: InputFault) -> SpellError {
+        SpellError::Fault(fault)
+    }
+}
+
+impl From<NoMemory> for SpellError {
+    ghost from_gives = { λ _ error. error ≡ errors.NoMemory };
+
+    fn from(_refused: NoMemory) -> SpellError {
+        SpellError::NoMemory
+    }
+}
+
+impl<T: Drop> From<AllocFailed<T>> for SpellError {
+    ghost from_gives = { λ _ error. error ≡ errors.NoMemory };
+
+    fn from(_refused: AllocFailed<T>) -> SpellError {
+        SpellError::NoMemory
+    }
+}
+
+/// What an input spells: a message, where record data stands in it, and the values to be pushed.
+#[derive(Drop)]
+pub struct Spelling {
+    pub message: Octets,
+    pub place: Place,
+    pub pushes: Vec<AllValues>,
+}
+
+/// Reads the first line.
+fn place_line(input: &mut Lines<'_>) -> Result<Place, InputFault>
+    ensures value { result ≡ needed 1 (option_and_then place_of (slice_get input.old 0)) }
+    ensures rest { input.new ≡ drop 1 input.old }
+{
+    let line = input.next();
+    line.and_then(place_in).ok_or(InputFault::BadLine(1))
+}
+
+/// Reads the second line.
+fn message_line(alloc: Global, input: &mut Lines<'_>) -> Result<Octets, SpellError>
+    ensures value { Gives (λ message. message) result (needed 2 (option_and_then octets_of (slice_get input.old 0))) }
+    ensures rest { input.new ≡ drop 1 input.old }
+{
+    let Some(line) = input.next() else {
+        return Err(SpellError::Fault(InputFault::BadLine(2)));
+    };
+    match octets_in(alloc, line)? {
+        Some(message) => Ok(message),
+        None => Err(SpellError::Fault(InputFault::BadLine(2))),
+    }
+}
+
+/// Tests a place in a message of so many octets, and its limit.
+fn check_place(place: &Place, message_len: usize) -> Result<(), InputFault>
+    ensures fault { IfErr result (λ fault. place_fault place.now message_len ≡ Some fault) }
+    ensures within { OnOk result (place.now.start + place.now.len ≤ message_len) }
+    ensures limit { OnOk result (place.now.limit < 2 ^ 31) }
+{
+    if place.start as usize + place.len as usize > message_len {
+        return Err(InputFault::PlaceOutsideMessage);
+    }
+    if place.limit >= LIMIT_END {
+        return Err(InputFault::LimitTooLarge);
+    }
+    Ok(())
+}
+
+/// Reads the lines from the third on.
+fn push_lines(alloc: Global, mut input: Lines<'_>) -> Result<Vec<AllValues>, SpellError>
+    requires { length input < 2 ^ 32 }
+    ensures { Gives (λ pushes. map value_of pushes.items) result (pushes_of 3 input.entry) }
+{
+    let mut pushes = Vec::new(alloc);
+    let mut number = FIRST_PUSH;
+    while let Some(line) = input.next() {
+        match push_in(alloc, line)? {
+            Some(push) => pushes.push(push)?,
+            None => return Err(SpellError::Fault(InputFault::BadLine(number))),
+        }
+        number += 1;
+    }
+    Ok(pushes)
+}
+
+/// Reads an input of `edit`.
+pub fn read_spelling(alloc: Global, input: &[u8]) -> Result<Spelling, SpellError>
+    ensures value { Gives spelled_view result (spelled input.now) }
+    ensures within { IfOk result (λ s. s.place.start + s.place.len ≤ length s.message) }
+    ensures limit { IfOk result (λ s. s.place.limit < 2 ^ 31) }
+{
+    if input.len() > MAX_INPUT {
+        return Err(SpellError::Fault(InputFault::TooLong));
+    }
+    let mut lines = Lines::new(input);
+    let place = place_line(&mut lines)?;
+    let message = message_line(alloc, &mut lines)?;
+    check_place(&place, message.len())?;
+    let pushes = push_lines(alloc, lines)?;
+    Ok(Spelling {
+        message,
+        place,
+        pushes,
+    })
+}
