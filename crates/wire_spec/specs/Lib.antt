@@ -1,7 +1,11 @@
 pub mod Octets
 pub mod Names
+pub mod OwnedNames
+pub mod NameOrderLaws
 pub mod Params
 pub mod Values
+pub mod ReadingValues
 pub mod Records
+pub mod CanonicalOrder
 pub mod Rebuilding
 pub mod Laws

@@ -1,12 +1,12 @@
 -- Record data with parameters added.
-use Rattle.std.specs.Prelude.{ℕ, ◌+◌, length, nat_lt, if◌then◌else◌, is_some, List, [], ◌∷◌, Result, Ok, Err}
+use Rattle.std.specs.Prelude.{◌≡◌, ℕ, ◌+◌, ◌<◌, ◌≤◌, List, length, nat_lt, if◌then◌else◌, is_some, [], ◌∷◌, Some, Result, Ok, Err}
 use Rattle.std.specs.Ordering.{nat_cmp}
 use Rattle.std.specs.BTreeMap.{insert_entry}
 use Rattle.wire_spec.specs.declared.Reply.{Reply}
 use Rattle.wire_spec.specs.declared.Reply.TheVariants.{Accepted, DuplicateKey, ShortBuf}
 use Rattle.wire_spec.specs.Octets.{Fault}
 use Rattle.wire_spec.specs.Params.{Pairs, value_at, wire}
-use Rattle.wire_spec.specs.Values.{Value, key_of, encode}
+use Rattle.wire_spec.specs.Values.{Value, key_of, encode, Each, AreValues}
 use Rattle.wire_spec.specs.Records.{Record, read, rdata}
 
 -- the reply to octets that are pushed under a key
@@ -61,3 +61,23 @@ rebuild_of (Ok found) values limit = rebuild_read found values limit
 -- the record data in the `len` octets from `start` on, with the values pushed
 unfoldable pub rebuild : List ℕ → ℕ → ℕ → List Value → ℕ → Result Rebuilt Refusal
 rebuild message start len values limit = rebuild_of (read message start len) values limit
+
+-- ---- what rebuilding leaves
+
+-- a record with the pairs of the values accepted
+abbrev pub accepted : Record → List Value → ℕ → Record
+accepted found values limit = record found { pairs = (accept found.pairs limit values).pairs }
+
+-- each value that was accepted is the one under its key
+abbrev pub AreHeld : Pairs → List Value → List Reply → Type 0
+AreHeld pairs [] replies = Unit {0}
+AreHeld pairs (value ∷ values) [] = Unit {0}
+AreHeld pairs (value ∷ values) (reply ∷ replies) = (reply ≡ Accepted → value_at pairs (key_of value) ≡ Some (encode value)) × AreHeld pairs values replies
+
+-- the data in the `len` octets from `start` on is `found`, and with the values pushed it is `done`
+pub record IsRebuilding (message : List ℕ) (start len : ℕ) (values : List Value) (limit : ℕ) (found : Record) (done : Rebuilt) : Type 0 where
+  pub octets : Each (λ octet. octet < 256) message
+  pub in_message : start + len ≤ length message
+  pub are_values : AreValues values
+  pub read : read message start len ≡ Ok found
+  pub rebuilt : rebuild message start len values limit ≡ Ok done

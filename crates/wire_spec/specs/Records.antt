@@ -1,8 +1,8 @@
 -- The data of SVCB and HTTPS records (RFC 9460, section 2.2).
-use Rattle.std.specs.Prelude.{ℕ, ◌+◌, List, ◌++◌, length, None, Result, Ok, Err, nat_lt, if◌then◌else◌}
+use Rattle.std.specs.Prelude.{ℕ, ◌+◌, ◌<◌, List, ◌++◌, length, None, Result, Ok, Err, nat_lt, if◌then◌else◌}
 use Rattle.wire_spec.specs.Octets.{Fault, Short, Form, be2, number_at, ◌>>=◌}
-use Rattle.wire_spec.specs.Names.{name_at, name_wire}
-use Rattle.wire_spec.specs.Params.{Pairs, pairs_at, wire}
+use Rattle.wire_spec.specs.Names.{name_at, name_wire, AreLabels}
+use Rattle.wire_spec.specs.Params.{Pairs, pairs_at, wire, IsMap}
 
 -- the priority, the labels of the target without the root, and the parameters
 pub record Record : Type 0 where
@@ -13,6 +13,13 @@ pub record Record : Type 0 where
 -- the octets of record data, whose target is uncompressed
 abbrev pub rdata : ℕ → List (List ℕ) → Pairs → List ℕ
 rdata priority labels pairs = be2 priority ++ name_wire labels ++ wire pairs
+
+-- what a record is: a priority of 16 bits, the labels of a name, a map, and at most 65,535 octets in all
+pub record IsRecord (found : Record) : Type 0 where
+  pub priority : found.priority < 65536
+  pub labels : AreLabels 0 found.labels
+  pub is_map : IsMap found.pairs
+  pub few : length (rdata found.priority found.labels found.pairs) < 65536
 
 -- the record data in the `len` octets from `start` on: at most 65,535 octets, as it stands and uncompressed
 unfoldable pub read : List ℕ → ℕ → ℕ → Result Record Fault
