@@ -1,2 +1,4 @@
 mod Walk
 mod Labels
+mod OwnedNames
+mod NameComparisons

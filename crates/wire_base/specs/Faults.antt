@@ -1,5 +1,5 @@
 -- What a reader answers, beside what a definition of reading gives.
-use Rattle.std.specs.Prelude.{◌≡◌, Result, Ok, Err}
+use Rattle.std.specs.Prelude.{◌≡◌, Result, Ok, Err, IsOk}
 use Rattle.wire_spec.specs.Octets as spec
 use Rattle.wire_base.specs.declared.errors.ParseError.{ParseError}
 use Rattle.wire_base.specs.declared.errors.ParseError.TheVariants.{ShortInput, Form, NoMemory}
@@ -14,3 +14,10 @@ IsFaultOf NoMemory read = ⊥
 abbrev pub Gives : {X Y : Type 0} → (X → Y) → Result X ParseError → Result Y spec.Fault → Type 0
 Gives view (Ok x) read = read ≡ Ok (view x)
 Gives view (Err error) read = IsFaultOf error read
+
+-- the same of a call that takes memory for what was read, where only that may be wanting
+abbrev pub GivesCopy : {X Y : Type 0} → (X → Y) → Result X ParseError → Result Y spec.Fault → Type 0
+GivesCopy view (Ok x) read = read ≡ Ok (view x)
+GivesCopy view (Err NoMemory) read = IsOk read
+GivesCopy view (Err ShortInput) read = read ≡ Err spec.Short
+GivesCopy view (Err Form) read = read ≡ Err spec.Form

@@ -2,3 +2,6 @@ pub mod Input
 pub mod Faults
 pub mod NameView
 pub mod NameParts
+pub mod Lending
+pub mod OwnedNameView
+pub mod RecordReading

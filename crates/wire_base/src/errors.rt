@@ -1,6 +1,6 @@
 //! Why octets could not be read or written.
 
-ghost use Rattle.std.specs.Prelude.{◌≡◌, ◌≤◌, ◌<◌, OnOk, OnErr};
+ghost use Rattle.std.specs.Prelude.{◌≡◌, ◌+◌, ◌≤◌, ◌<◌, sum, codes, OnOk, OnErr};
 ghost use Rattle.wire_base.specs.declared.errors.ParseError.TheVariants as errors;
 
 use std::alloc::{AllocError, AllocFailed};
@@ -85,5 +85,37 @@ impl LongRecordData {
             return Err(LongRecordData);
         }
         Ok(())
+    }
+
+    /// Tests the length of data with more octets behind it. Refused exactly where the sum is over 65,535.
+    pub fn check_append_len(len: usize, extra_len: usize) -> Result<(), LongRecordData>
+        ensures ok { OnOk result (len + extra_len ≤ 65535) }
+        ensures long { OnErr result (65535 < len + extra_len) }
+    {
+        LongRecordData::check_len(len)?;
+        if extra_len > LongRecordData::MAX_LEN - len {
+            return Err(LongRecordData);
+        }
+        Ok(())
+    }
+
+    /// Tests the length of data that is joined of parts of these lengths. Refused exactly where the sum is over 65,535.
+    pub fn check_multi_len(lens: &[usize]) -> Result<(), LongRecordData>
+        ensures ok { OnOk result (sum lens.now ≤ 65535) }
+        ensures long { OnErr result (65535 < sum lens.now) }
+    {
+        let mut total = 0;
+        for len in lens {
+            LongRecordData::check_append_len(total, *len)?;
+            total += *len;
+        }
+        Ok(())
+    }
+
+    /// The text of the error.
+    pub fn as_str(&self) -> &'static str
+        ensures { result.now ≡ codes "long record data" }
+    {
+        "long record data"
     }
 }

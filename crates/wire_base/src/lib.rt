@@ -1,17 +1,28 @@
-//! Reading a DNS message, its names, and owned octets.
+//! Reading a DNS message, its names, owned octets, and internet addresses.
 #![tactic(auto)]
 
+mod addresses;
 mod errors;
 mod label_iter;
 mod name;
+mod name_comparisons;
 mod name_parts;
 mod octets;
+mod owned_name;
+#[cfg(test)]
+mod owned_name_tests;
 mod parser;
+mod records;
+mod rtype;
 #[cfg(test)]
 mod tests;
 
+pub use addresses::{Ipv4Addr, Ipv6Addr};
 pub use errors::{LongRecordData, NoMemory, ParseError, ShortInput};
 pub use label_iter::LabelIter;
 pub use name::ParsedName;
 pub use octets::Octets;
+pub use owned_name::Name;
 pub use parser::Parser;
+pub use records::{CanonicalOrd, ComposeRecordData, ParseRecordData, RecordData};
+pub use rtype::Rtype;

@@ -1,13 +1,16 @@
 //! Names in a message.
 
 ghost use Rattle.std.specs.Prelude.{◌≡◌, ◌+◌, ◌≤◌, ◌<◌, ◌++◌, length, vec_len, vec_capacity, IfOk, OnOk, OnErr};
-ghost use Rattle.wire_spec.specs.Names.{name_at, name_wire, is_pointed};
+ghost use Rattle.wire_spec.specs.Names.{name_at, name_wire, is_pointed, AreLabels};
 ghost use Rattle.wire_base.specs.Faults.{Gives};
 
 use crate::errors::{NoMemory, ParseError};
 use crate::label_iter::LabelIter;
 use crate::name_parts::span_at;
+use crate::octets::Octets;
+use crate::owned_name::Name;
 use crate::parser::Parser;
+use std::alloc::Global;
 use std::marker::Model;
 
 /// A name in a message, whose labels are read through its pointers (RFC 1035, section 4.1.4).
@@ -37,8 +40,10 @@ impl<'a> ParsedName<'a> {
     ///
     /// `ShortInput`: the data ends before the name does. `Form`: a length octet of 64 to 191, a name of more than 255
     /// octets, a pointer that doesn't go back, or a 256th pointer. The parser then stays.
+    #[tactic(auto, using(crate::proofs::OwnedNames::labels_read))]
     pub fn parse(parser: &mut Parser<'a>) -> Result<ParsedName<'a>, ParseError>
         ensures name { Gives (λ name. record { labels = name.labels; next = parser.new.pos }) result (name_at parser.old.message parser.old.end parser.old.pos 0 0) }
+        ensures labels { IfOk result (λ name. AreLabels 0 name.labels) }
         ensures pointed { IfOk result (λ name. name.is_compressed ≡ is_pointed parser.old.message parser.old.end parser.old.pos) }
         ensures ok { OnOk result (parser.new ≡ record parser.old { pos = parser.new.pos }) }
         ensures err { OnErr result (parser.new ≡ parser.old) }
@@ -93,5 +98,15 @@ impl<'a> ParsedName<'a> {
         }
         target.push(0).unwrap();
         Ok(())
+    }
+
+    /// The name by itself, its labels in the same case. Refused only for memory.
+    #[tactic(auto, using(crate::proofs::OwnedNames::copy_rules))]
+    pub fn to_name(&self, alloc: Global) -> Result<Name, NoMemory>
+        ensures { IfOk result (λ name. name ≡ self.now.labels) }
+    {
+        let mut octets = Vec::with_capacity(alloc, usize::from(self.len))?;
+        self.compose(&mut octets)?;
+        Ok(Name::from_wire(Octets::from_vec(octets)))
     }
 }

@@ -1,10 +1,12 @@
 //! Owned octets.
 
 ghost use Rattle.std.specs.Prelude.{◌≡◌, ◌==◌, length, IfOk};
+ghost use Rattle.std.specs.Borrow.{sem};
 
 use crate::errors::NoMemory;
 use std::alloc::Global;
 use std::cmp::Ordering;
+use std::hash::{Hash, Hasher};
 use std::marker::Model;
 
 /// A list of octets, which contracts see as that list.
@@ -22,6 +24,8 @@ impl Model for Octets {
 }
 
 impl Octets {
+    ghost use Rattle.wire_base.specs.Lending.{LendsOctets};
+
     /// A copy of the octets of a slice.
     pub fn from_slice(alloc: Global, slice: &[u8]) -> Result<Octets, NoMemory>
         ensures { IfOk result (λ octets. octets ≡ slice.now) }
@@ -51,6 +55,14 @@ impl Octets {
         ensures { result.now ≡ self.now }
     {
         self.bytes.as_slice()
+    }
+
+    /// The octets for writing. What is written stays; the count of octets is as before.
+    pub fn as_slice_mut(&mut self) -> &mut [u8]
+        ensures* writes_back { sem 𝓛 (LendsOctets self.entry result) }
+        ensures octets { result.now ≡ self.old }
+    {
+        self.bytes.as_mut_slice()
     }
 
     /// The count of octets.
@@ -130,5 +142,20 @@ impl PartialOrd for Octets {
 
     fn partial_cmp(&self, other: &Octets) -> Option<Ordering> {
         Some(self.cmp(other))
+    }
+}
+
+/// Equal octets feed equal hashes.
+impl Hash for Octets {
+    ghost use Rattle.std.specs.Hash as fed;
+    ghost use Rattle.std.specs.Cmp.Rules.{hashing};
+    ghost use Rattle.std.proofs.Common.{rules};
+
+    ghost hash_input = { fed.slice fed.u8 };
+
+    ghost respects_eq = { Prim.search (hashing, rules) };
+
+    fn hash<H: Hasher>(&self, state: &mut H) {
+        self.as_slice().hash(state);
     }
 }

@@ -3,6 +3,7 @@
 ghost use Rattle.std.specs.Prelude.{◌≡◌, ◌+◌, ◌-◌, ◌≤◌, ◌<◌, length, slice_index, slice_range, IfOk, OnOk, OnErr};
 ghost use Rattle.std.specs.Int.{w32, from_be_bytes};
 ghost use Rattle.wire_spec.specs.Octets.{number_at};
+ghost use Rattle.wire_base.specs.Input.{left};
 
 use crate::errors::ShortInput;
 use std::marker::Model;
@@ -68,6 +69,14 @@ impl<'a> Parser<'a> {
         ensures { result + self.now.pos ≡ self.now.end }
     {
         self.end - self.pos
+    }
+
+    /// All octets before the end of the data. The parser stays.
+    pub fn peek_all(&self) -> &'a [u8]
+        ensures octets { result.now ≡ left self.now }
+        ensures len { self.now.pos + length result.now ≡ self.now.end }
+    {
+        &self.message[self.pos..self.end]
     }
 
     /// Goes to a place. Refused exactly past the end of the data; the parser then stays.

@@ -1,6 +1,9 @@
 //! Examples of RFC 1035, section 4.1.4, limits, and calls that take memory.
 
-use crate::{LongRecordData, NoMemory, Octets, ParseError, ParsedName, Parser, ShortInput};
+use crate::{
+    Ipv4Addr, Ipv6Addr, LongRecordData, NoMemory, Octets, ParseError, ParsedName, Parser,
+    ShortInput,
+};
 use std::alloc::{AllocError, Global};
 use std::test::Fail;
 
@@ -62,7 +65,7 @@ fn names_refused(rt: HostRuntime) -> Result<(), Fail> {
 }
 
 /// Three labels of 63 octets, one of `last`, and the root: 194 + `last` octets.
-fn long_name(alloc: Global, last: u8) -> Result<Vec<u8>, AllocError> {
+pub(crate) fn long_name(alloc: Global, last: u8) -> Result<Vec<u8>, AllocError> {
     let mut name = Vec::new(alloc);
     for len in [63, 63, 63, last] {
         name.push(len)?;
@@ -170,6 +173,23 @@ fn octets_are_kept(rt: HostRuntime) -> Result<(), Fail> {
     assert!(rt; copy < Octets::from_slice(rt.alloc(), b"\x03")?);
     assert_eq!(rt; copy.into_vec().as_slice(), b"\x01\x02".as_slice());
     Ok(())
+}
+
+#[test]
+fn octets_are_written(rt: HostRuntime) -> Result<(), Fail> {
+    let mut octets = Octets::from_slice(rt.alloc(), b"foo")?;
+    octets.as_slice_mut()[0] = b'g';
+    assert_eq!(rt; octets.as_slice(), b"goo".as_slice());
+    Ok(())
+}
+
+#[test]
+fn addresses_are_their_octets(rt: HostRuntime) {
+    let address = Ipv4Addr::new([192, 0, 2, 1]);
+    assert_eq!(rt; address.octets(), [192, 0, 2, 1]);
+    assert!(rt; address < Ipv4Addr::new([192, 0, 2, 2]));
+    let mapped = [0, 0, 0, 0, 0, 0, 0, 0, 0, 0, 0xff, 0xff, 198, 51, 100, 100];
+    assert_eq!(rt; Ipv6Addr::new(mapped).octets(), mapped);
 }
 
 #[test]

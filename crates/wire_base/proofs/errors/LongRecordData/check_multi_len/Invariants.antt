@@ -1,0 +1,8 @@
+use Rattle.std.proofs.Common.{◌≡◌, ◌+◌, ◌≤◌, sum, drop}
+use Rattle.wire_base.proofs.errors.LongRecordData.check_multi_len.Given as goal
+
+abbrev pub invariant-loop-len : goal.invariant-loop-len
+invariant-loop-len l = record {
+  total_is : l.total + sum (drop l.len-index l.lens) ≡ sum l.lens;
+  small : l.total ≤ 65535;
+}

@@ -1,0 +1,70 @@
+//! Types of records.
+
+ghost use Rattle.std.specs.Prelude.{◌≡◌};
+
+use std::marker::Model;
+
+/// The type of a record (RFC 1035, section 3.2.2), a number of 16 bits. Types are ordered by their numbers.
+#[derive(Clone, Copy, Debug, PartialEq, Eq, PartialOrd, Ord, Hash)]
+pub struct Rtype(u16);
+
+impl Model for Rtype {
+    ghost use Rattle.std.specs.Prelude.{ℕ, ◌<◌, ◌^◌};
+
+    ghost Value = { ℕ };
+
+    ghost view = { λ rtype. rtype.0 };
+
+    ghost invariant = { λ rtype. rtype.0 < 2 ^ 16 };
+
+    ghost inverse = { λ number. record { 0 = number } };
+}
+
+impl Rtype {
+    /// An IPv4 address (RFC 1035, section 3.4.1).
+    pub const A: Rtype = Rtype(1);
+
+    /// An IPv6 address (RFC 3596, section 2.1).
+    pub const AAAA: Rtype = Rtype(28);
+
+    /// The fingerprint of a key of a host (RFC 4255).
+    pub const SSHFP: Rtype = Rtype(44);
+
+    /// A key for IPsec (RFC 4025).
+    pub const IPSECKEY: Rtype = Rtype(45);
+
+    /// A certificate of a TLS service (RFC 6698).
+    pub const TLSA: Rtype = Rtype(52);
+
+    /// A digest of a key for the parent zone (RFC 7344).
+    pub const CDS: Rtype = Rtype(59);
+
+    /// A key for the parent zone (RFC 7344).
+    pub const CDNSKEY: Rtype = Rtype(60);
+
+    /// An OpenPGP key (RFC 7929).
+    pub const OPENPGPKEY: Rtype = Rtype(61);
+
+    /// A digest of a zone (RFC 8976).
+    pub const ZONEMD: Rtype = Rtype(63);
+
+    /// A service and its parameters (RFC 9460).
+    pub const SVCB: Rtype = Rtype(64);
+
+    /// An HTTPS service and its parameters (RFC 9460).
+    pub const HTTPS: Rtype = Rtype(65);
+
+    /// The type with a number.
+    pub fn from_int(value: u16) -> Rtype
+        ensures { result ≡ value }
+    {
+        Rtype(value)
+    }
+
+    /// The number.
+    pub fn to_int(self) -> u16
+        ensures { result ≡ self }
+    {
+        self.0
+    }
+}
