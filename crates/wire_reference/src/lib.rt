@@ -11,8 +11,10 @@ mod rebuilding;
 mod records;
 #[cfg(test)]
 mod tests;
+mod values;
 
 pub use names::{Name, is_pointed, name_at, name_wire};
 pub use params::{Params, pairs_at, wire};
-pub use rebuilding::{Rebuilt, Refusal, Value, accept, rebuild};
+pub use rebuilding::{Rebuilt, Refusal, accept, rebuild};
 pub use records::{Record, be2, number_at, rdata, read};
+pub use values::Value;

@@ -11,38 +11,13 @@ ghost use Rattle.wire_reference.specs.Values.{value_of};
 
 use crate::params::{Params, wire};
 use crate::records::{rdata, read};
+use crate::values::Value;
 use std::alloc::Global;
 use wire_base::{NoMemory, Octets, ParseError};
 use wire_spec::Reply;
 
 /// The most octets of record data.
 const MAX_RDATA: usize = 65535;
-
-/// A value, and the key that it belongs to.
-#[derive(Drop)]
-pub enum Value {
-    Unknown(u16, Octets),
-}
-
-impl Value {
-    /// The key that the value belongs to.
-    pub fn key(&self) -> u16
-        ensures { result ≡ key_of (value_of self.now) }
-    {
-        match self {
-            Value::Unknown(key, _) => *key,
-        }
-    }
-
-    /// The value's octets.
-    pub fn encode(&self) -> &Octets
-        ensures { result.now ≡ encode (value_of self.now) }
-    {
-        match self {
-            Value::Unknown(_, octets) => octets,
-        }
-    }
-}
 
 /// One push, and its reply.
 fn push(alloc: Global, params: &mut Params, limit: usize, value: &Value) -> Result<Reply, NoMemory>
@@ -52,14 +27,14 @@ fn push(alloc: Global, params: &mut Params, limit: usize, value: &Value) -> Resu
     ensures after { IfOk result (λ reply. params.new.entries ≡ after reply params.old.entries (key_of (value_of value.now)) (encode (value_of value.now))) }
     ensures map { OnOk result (IsMap params.new.entries) }
 {
-    let octets = value.encode();
+    let octets = value.encode(alloc)?;
     if params.contains_key(&value.key()) {
         return Ok(Reply::DuplicateKey);
     }
     if wire(alloc, params)?.len() + 4 + octets.len() > limit {
         return Ok(Reply::ShortBuf);
     }
-    params.insert(value.key(), octets.try_clone(alloc)?)?;
+    params.insert(value.key(), octets)?;
     Ok(Reply::Accepted)
 }
 

@@ -198,6 +198,28 @@ fn ascending_keys(rt: HostRuntime) -> Result<(), Fail> {
 }
 
 #[test]
+fn typed_values(rt: HostRuntime) -> Result<(), Fail> {
+    let alloc = rt.alloc();
+    let pushes = [
+        Value::Ohttp,
+        Value::DohPath(Octets::from_slice(alloc, b"/q")?),
+        Value::Ech(Octets::from_slice(alloc, &[0xaa])?),
+        Value::Port(443),
+        Value::NoDefaultAlpn,
+        Value::Port(53),
+    ];
+    let mut params = BTreeMap::new(alloc);
+    let replies = accept(alloc, &mut params, 100, &pushes)?;
+    assert_eq!(rt; replies.len(), 6);
+    assert_eq!(rt; replies[4], Reply::Accepted);
+    assert_eq!(rt; replies[5], Reply::DuplicateKey);
+    let octets =
+        b"\x00\x02\x00\x00\x00\x03\x00\x02\x01\xbb\x00\x05\x00\x01\xaa\x00\x07\x00\x02/q\x00\x08\x00\x00";
+    assert_eq!(rt; wire(alloc, &params)?.as_slice(), octets.as_slice());
+    Ok(())
+}
+
+#[test]
 fn the_next_push_is_tried(rt: HostRuntime) -> Result<(), Fail> {
     let alloc = rt.alloc();
     let pushes = [
