@@ -1,3 +1,4 @@
+pub mod Reading
 pub mod Tables
 pub mod Texts
 pub mod Keys

@@ -1,13 +1,17 @@
-//! Numbers of registries, their mnemonics and texts, and the keys of service parameters.
+//! Numbers of registries, their mnemonics and texts, the keys of service parameters, and the traits of their values.
 #![tactic(auto)]
 
+mod errors;
 mod integer;
 mod number;
 mod svc_param_key;
+mod values;
 
+pub use errors::{BuildValueError, LongSvcParam, ShortBuf};
 pub use integer::Integer;
 pub use number::IanaNumber;
 pub use svc_param_key::{FromStrError, SvcParamKey};
+pub use values::{ComposeSvcParamValue, ParseSvcParamValue, SvcParamValue};
 
 #[cfg(test)]
 mod tests;

@@ -1,8 +1,8 @@
-//! Every key of the registry, the texts of keys, and their octets.
+//! Every key of the registry, the texts of keys, their octets, and the texts of errors.
 
-use crate::{FromStrError, IanaNumber, SvcParamKey};
+use crate::{BuildValueError, FromStrError, IanaNumber, LongSvcParam, ShortBuf, SvcParamKey};
 use std::test::Fail;
-use wire_base::{ParseError, Parser};
+use wire_base::{NoMemory, ParseError, Parser};
 
 #[test]
 fn keys_are_those_of_the_registry(rt: HostRuntime) -> Result<(), Fail> {
@@ -110,5 +110,23 @@ fn octets_are_read_and_written(rt: HostRuntime) -> Result<(), Fail> {
     assert_eq!(rt; u16::from(&SvcParamKey::PORT), 3);
     assert!(rt; SvcParamKey::ALPN < SvcParamKey::PORT);
     assert_eq!(rt; (SvcParamKey::COMPOSE_LEN, SvcParamKey::SHOW_NAME), (2, ""));
+    Ok(())
+}
+
+#[test]
+fn errors_print_their_texts(rt: HostRuntime) -> Result<(), Fail> {
+    let texts = [
+        (BuildValueError::from(LongSvcParam), "long SVCB value"),
+        (BuildValueError::from(ShortBuf), "short buffer"),
+        (BuildValueError::EmptyValue, "empty SVCB value"),
+        (BuildValueError::from(NoMemory), "want of memory"),
+    ];
+    for (error, text) in texts {
+        assert_eq!(rt; error.to_string(rt.alloc())?.as_str(), text);
+    }
+    let long = LongSvcParam.to_string(rt.alloc())?;
+    assert_eq!(rt; long.as_str(), LongSvcParam.as_str());
+    assert_eq!(rt; long.as_str(), "service parameter too long");
+    assert_eq!(rt; ShortBuf.to_string(rt.alloc())?.as_str(), "short buffer");
     Ok(())
 }

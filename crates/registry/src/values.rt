@@ -1,0 +1,65 @@
+//! What a value of a service parameter is, how it is read, and how it is composed.
+//!
+//! A type of another crate is a value too. It implements the traits and says by their ghost members what it means:
+//! `key_of` its key, `takes` the keys that it is read under, `Seen` and `seen` what contracts see of it, `reads` what
+//! octets are as such a value or which fault they have, and `octets` what it is composed to. Its functions are proved to
+//! answer so, and code that is generic over the traits then reads and composes it as any value of this library.
+
+ghost use Rattle.std.specs.Prelude.{◌≡◌, ℕ, ◌+◌, ◌≤◌, Bool, List, ◌++◌, length, Result, OnOk, OnErr};
+ghost use Rattle.wire_spec.specs.Octets.{Fault};
+ghost use Rattle.wire_spec.specs.ReadingValues.{Taken};
+ghost use Rattle.wire_base.specs.Input.{left};
+ghost use Rattle.registry.specs.Reading.{Answers, octets_taken, behind};
+
+use crate::svc_param_key::SvcParamKey;
+use wire_base::{NoMemory, ParseError, Parser};
+
+/// A value of a service parameter.
+pub trait SvcParamValue {
+    /// The value's key.
+    ghost key_of: { Self → ℕ };
+
+    /// The key of the parameter.
+    fn key(&self) -> SvcParamKey
+        ensures { result ≡ key_of self.now };
+}
+
+/// A value that is read from the octets of a parameter, and may borrow them.
+///
+/// A type says by `takes` which keys it takes, and by `reads` which value the octets of such a key begin with and how
+/// many octets that value has, or which fault they have. `seen` shows a value as contracts see it.
+pub trait ParseSvcParamValue<'a>: SvcParamValue + Sized + Drop {
+    /// What contracts see of a value.
+    ghost Seen: { Type 0 };
+
+    /// A value, as contracts see it.
+    ghost seen: { Self → Seen };
+
+    /// Whether the type takes a key.
+    ghost takes: { ℕ → Bool };
+
+    /// What octets under a key begin with, or their fault.
+    ghost reads: { ℕ → List ℕ → Result (Taken Seen) Fault };
+
+    /// The value of a key that the parser's octets begin with; the parser then stands behind it. None exactly where the
+    /// type does not take the key. Refused by the first fault of the octets. The parser stays where there is no value.
+    fn parse_value(key: SvcParamKey, parser: &mut Parser<'a>) -> Result<Option<Self>, ParseError>
+        ensures answer { Answers seen result (takes key) (reads key (left parser.old)) }
+        ensures moved { parser.new ≡ behind parser.old (octets_taken (takes key) (reads key (left parser.old))) }
+        ensures within { parser.new.pos ≤ parser.new.end };
+}
+
+/// A value that is composed.
+pub trait ComposeSvcParamValue: SvcParamValue {
+    /// The value's octets.
+    ghost octets: { Self → List ℕ };
+
+    /// The count of the value's octets.
+    fn compose_len(&self) -> u16
+        ensures { result ≡ length (octets self.now) };
+
+    /// Appends the value's octets. Refused for want of memory alone; the target then stays.
+    fn compose_value(&self, target: &mut Vec<u8>) -> Result<(), NoMemory>
+        ensures ok { OnOk result (target.new.items ≡ target.old.items ++ octets self.now) }
+        ensures err { OnErr result (target.new.items ≡ target.old.items) };
+}
