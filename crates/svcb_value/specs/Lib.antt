@@ -1,0 +1,4 @@
+pub mod Parameters
+pub mod UnknownView
+pub mod Lending
+pub mod Building

@@ -1,0 +1,48 @@
+//! Paths of DNS over HTTPS.
+
+ghost use Rattle.std.specs.Prelude.{◌≡◌, ◌<◌, ◌≤◌, length, IfOk, IfErr, OnOk, refl};
+ghost use Rattle.wire_spec.specs.Values as values;
+ghost use Rattle.svcb_value.specs.Building.{IsCause};
+
+use crate::opaque::{OpaqueType, OpaqueValue};
+use crate::opaque_ref::OpaqueRef;
+use registry::{BuildValueError, LongSvcParam, SvcParamKey};
+use std::alloc::Global;
+use wire_base::Octets;
+
+/// The type of `dohpath` (RFC 9461, section 5): a URI template in UTF-8. Octets that are no UTF-8 are values too.
+pub struct DohPathType;
+
+impl OpaqueType for DohPathType {
+    ghost key = { 7 };
+
+    ghost value = { values.DohPath };
+
+    ghost belongs = { λ octets. refl };
+
+    ghost encodes = { λ octets. refl };
+
+    fn key() -> SvcParamKey {
+        SvcParamKey::DOHPATH
+    }
+}
+
+/// The value of `dohpath`.
+pub type DohPath = OpaqueValue<DohPathType>;
+
+/// A view of the value of `dohpath`.
+pub type DohPathRef<'a> = OpaqueRef<'a, DohPathType>;
+
+impl OpaqueValue<DohPathType> {
+    /// The value of a text. Refused as `LongSvcParam` exactly where the text has more than 65,535 octets, before
+    /// memory is taken, else for want of memory alone.
+    pub fn from_text(alloc: Global, text: &str) -> Result<DohPath, BuildValueError>
+        ensures value { IfOk result (λ value. value ≡ values.DohPath text.now) }
+        ensures ok { OnOk result (length text.now ≤ 65535) }
+        ensures cause { IfErr result (IsCause (length text.now)) }
+    {
+        LongSvcParam::check_len(text.len())?;
+        let octets = Octets::from_slice(alloc, text.as_bytes())?;
+        Ok(OpaqueValue::from_octets(octets)?)
+    }
+}

@@ -1,0 +1,122 @@
+//! Values that say something by being there, and have no octets.
+
+ghost use Rattle.std.specs.Prelude.{◌≡◌, ℕ, List, [], ◌==◌, Ok, IsOk, OnOk};
+ghost use Rattle.wire_spec.specs.Values as values;
+
+use registry::{ComposeSvcParamValue, ParseSvcParamValue, SvcParamKey, SvcParamValue};
+use wire_base::{NoMemory, ParseError, Parser};
+
+/// The value of `no-default-alpn` (RFC 9460, section 7.1.1): the protocols of `alpn` are the only ones.
+#[derive(Clone, Copy, Debug, PartialEq, Eq, Hash)]
+pub struct NoDefaultAlpn;
+
+impl NoDefaultAlpn {
+    /// The value. It has no octets: all that remain are left.
+    pub fn parse(parser: &mut Parser<'_>) -> Result<NoDefaultAlpn, ParseError>
+        ensures always { IsOk result }
+        ensures stays { parser.new ≡ parser.old }
+    {
+        Ok(NoDefaultAlpn)
+    }
+}
+
+impl SvcParamValue for NoDefaultAlpn {
+    ghost key_of = { λ _. 2 };
+
+    fn key(&self) -> SvcParamKey {
+        SvcParamKey::NO_DEFAULT_ALPN
+    }
+}
+
+impl<'a> ParseSvcParamValue<'a> for NoDefaultAlpn {
+    ghost Seen = { values.Value };
+
+    ghost seen = { λ _. values.NoDefaultAlpn };
+
+    ghost takes = { λ key. key == 2 };
+
+    ghost reads = { λ _ _. Ok (record { value = values.NoDefaultAlpn; len = 0 }) };
+
+    fn parse_value(
+        key: SvcParamKey,
+        parser: &mut Parser<'a>,
+    ) -> Result<Option<NoDefaultAlpn>, ParseError> {
+        // the parser stands within its data
+        let _left = parser.peek_all();
+        if key != SvcParamKey::NO_DEFAULT_ALPN {
+            return Ok(None);
+        }
+        match NoDefaultAlpn::parse(parser) {
+            Ok(value) => Ok(Some(value)),
+            Err(error) => Err(error),
+        }
+    }
+}
+
+impl ComposeSvcParamValue for NoDefaultAlpn {
+    ghost octets = { λ _. [] };
+
+    fn compose_len(&self) -> u16 {
+        0
+    }
+
+    fn compose_value(&self, _target: &mut Vec<u8>) -> Result<(), NoMemory> {
+        Ok(())
+    }
+}
+
+/// The value of `ohttp` (RFC 9540, section 4): the service is reached by Oblivious HTTP.
+#[derive(Clone, Copy, Debug, PartialEq, Eq, Hash)]
+pub struct Ohttp;
+
+impl Ohttp {
+    /// The value. It has no octets: all that remain are left.
+    pub fn parse(parser: &mut Parser<'_>) -> Result<Ohttp, ParseError>
+        ensures always { IsOk result }
+        ensures stays { parser.new ≡ parser.old }
+    {
+        Ok(Ohttp)
+    }
+}
+
+impl SvcParamValue for Ohttp {
+    ghost key_of = { λ _. 8 };
+
+    fn key(&self) -> SvcParamKey {
+        SvcParamKey::OHTTP
+    }
+}
+
+impl<'a> ParseSvcParamValue<'a> for Ohttp {
+    ghost Seen = { values.Value };
+
+    ghost seen = { λ _. values.Ohttp };
+
+    ghost takes = { λ key. key == 8 };
+
+    ghost reads = { λ _ _. Ok (record { value = values.Ohttp; len = 0 }) };
+
+    fn parse_value(key: SvcParamKey, parser: &mut Parser<'a>) -> Result<Option<Ohttp>, ParseError> {
+        // the parser stands within its data
+        let _left = parser.peek_all();
+        if key != SvcParamKey::OHTTP {
+            return Ok(None);
+        }
+        match Ohttp::parse(parser) {
+            Ok(value) => Ok(Some(value)),
+            Err(error) => Err(error),
+        }
+    }
+}
+
+impl ComposeSvcParamValue for Ohttp {
+    ghost octets = { λ _. [] };
+
+    fn compose_len(&self) -> u16 {
+        0
+    }
+
+    fn compose_value(&self, _target: &mut Vec<u8>) -> Result<(), NoMemory> {
+        Ok(())
+    }
+}

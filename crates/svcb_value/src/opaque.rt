@@ -1,0 +1,144 @@
+//! Values whose octets are not looked into.
+
+ghost use Rattle.std.specs.Prelude.{◌≡◌, ℕ, List, ◌≤◌, ◌<◌, length, IfOk, OnOk, OnErr};
+ghost use Rattle.wire_spec.specs.Values.{Value, key_of, encode};
+ghost use Rattle.wire_spec.specs.ReadingValues.{take_all, long_fault};
+ghost use Rattle.wire_base.specs.Faults.{GivesCopy};
+ghost use Rattle.wire_base.specs.Input.{left};
+
+use crate::opaque_ref::OpaqueRef;
+use registry::{ComposeSvcParamValue, LongSvcParam, SvcParamKey, SvcParamValue};
+use std::alloc::Global;
+use std::marker::{Model, PhantomData};
+use wire_base::{NoMemory, Octets, ParseError, Parser};
+
+/// A type of values whose octets are not looked into: any octets are a value, at most 65,535.
+pub trait OpaqueType {
+    /// The key of the type.
+    ghost key: { ℕ };
+
+    /// The value of octets.
+    ghost value: { List ℕ → Value };
+
+    /// The key of the type.
+    fn key() -> SvcParamKey
+        ensures { result ≡ key };
+
+    /// Each value belongs to the key.
+    ghost belongs: { (octets : List ℕ) → key_of (value octets) ≡ key };
+
+    /// A value's octets are those that it is made of.
+    ghost encodes: { (octets : List ℕ) → encode (value octets) ≡ octets };
+}
+
+/// A value whose octets are not looked into. Equality looks at the octets.
+#[derive_where(PartialEq, Eq, Hash)]
+#[derive(Drop)]
+pub struct OpaqueValue<T: OpaqueType> {
+    pub(crate) octets: Octets,
+    #[derive_where(skip)]
+    pub(crate) kind: PhantomData<T>,
+}
+
+impl<T: OpaqueType> Model for OpaqueValue<T> {
+    ghost use Rattle.std.specs.Prelude.{◌≡◌, ◌<◌, length};
+    ghost use Rattle.wire_spec.specs.Values as values;
+
+    ghost Value = { values.Value };
+
+    ghost view = { λ a. T.value a.octets };
+
+    ghost invariant = { λ a. record { encodes : values.encode (T.value a.octets) ≡ a.octets; few : length a.octets < 65536 } };
+
+    ghost inverse = { λ value. record { octets = values.encode value; kind = record {} } };
+
+    ghost inverse_ok = { λ a h i. record { octets = h.encodes i; kind = record {} } };
+}
+
+impl<T: OpaqueType> OpaqueValue<T> {
+    /// The value of octets. Refused exactly over 65,535 octets; they are then dropped.
+    pub fn from_octets(octets: Octets) -> Result<OpaqueValue<T>, LongSvcParam>
+        ensures value { IfOk result (λ value. value ≡ T.value octets) }
+        ensures ok { OnOk result (length octets ≤ 65535) }
+        ensures long { OnErr result (65535 < length octets) }
+    {
+        LongSvcParam::check_len(octets.len())?;
+        Ok(OpaqueValue {
+            octets,
+            kind: PhantomData,
+        })
+    }
+
+    /// The value of all octets that remain. Refused as `Form` exactly where more than 65,535 remain, else for want of
+    /// memory alone; the parser then stays.
+    pub fn parse(alloc: Global, parser: &mut Parser<'_>) -> Result<OpaqueValue<T>, ParseError>
+        ensures answer { GivesCopy (λ value. record { value = value; len = length (encode value) }) result (take_all (long_fault (left parser.old)) (T.value (left parser.old)) (left parser.old)) }
+        ensures ok { OnOk result (parser.new ≡ record parser.old { pos = parser.old.end }) }
+        ensures err { OnErr result (parser.new ≡ parser.old) }
+    {
+        let slice = parser.peek_all();
+        LongSvcParam::check_len(slice.len())?;
+        let octets = Octets::from_slice(alloc, slice)?;
+        parser.advance_to_end();
+        Ok(OpaqueValue {
+            octets,
+            kind: PhantomData,
+        })
+    }
+
+    /// The octets.
+    pub fn as_octets(&self) -> &Octets
+        ensures { result.now ≡ encode self.now }
+    {
+        &self.octets
+    }
+
+    /// The octets.
+    pub fn as_slice(&self) -> &[u8]
+        ensures octets { result.now ≡ encode self.now }
+        ensures few { length (encode self.now) < 65536 }
+    {
+        self.octets.as_slice()
+    }
+
+    /// A view.
+    pub fn for_ref(&self) -> OpaqueRef<'_, T>
+        ensures { T.value result.slice.now ≡ self.now }
+    {
+        OpaqueRef {
+            slice: self.octets.as_slice(),
+            kind: PhantomData,
+        }
+    }
+
+    /// A copy.
+    pub fn try_clone(&self, alloc: Global) -> Result<OpaqueValue<T>, NoMemory>
+        ensures { IfOk result (λ value. value ≡ self.now) }
+    {
+        Ok(OpaqueValue {
+            octets: self.octets.try_clone(alloc)?,
+            kind: PhantomData,
+        })
+    }
+}
+
+impl<T: OpaqueType> SvcParamValue for OpaqueValue<T> {
+    ghost key_of = { key_of };
+
+    fn key(&self) -> SvcParamKey {
+        self.for_ref().key()
+    }
+}
+
+impl<T: OpaqueType> ComposeSvcParamValue for OpaqueValue<T> {
+    ghost octets = { encode };
+
+    fn compose_len(&self) -> u16 {
+        self.octets.len() as u16
+    }
+
+    fn compose_value(&self, target: &mut Vec<u8>) -> Result<(), NoMemory> {
+        target.extend_from_slice(self.octets.as_slice())?;
+        Ok(())
+    }
+}

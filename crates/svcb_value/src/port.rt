@@ -1,0 +1,101 @@
+//! Ports.
+
+ghost use Rattle.std.specs.Prelude.{◌≡◌, ℕ, ◌+◌, ◌≤◌, ◌<◌, ◌==◌, OnOk, OnErr};
+ghost use Rattle.wire_spec.specs.Octets.{be2};
+ghost use Rattle.wire_spec.specs.Values as values;
+ghost use Rattle.wire_spec.specs.ReadingValues.{take_port};
+ghost use Rattle.wire_base.specs.Faults.{Gives};
+ghost use Rattle.wire_base.specs.Input.{left};
+
+use registry::{ComposeSvcParamValue, Integer, ParseSvcParamValue, SvcParamKey, SvcParamValue};
+use std::marker::Model;
+use wire_base::{NoMemory, ParseError, Parser};
+
+/// The value of `port` (RFC 9460, section 7.2): the TCP or UDP port to use. Ports are ordered by their numbers.
+#[derive(Clone, Copy, Debug, PartialEq, Eq, PartialOrd, Ord, Hash)]
+pub struct Port(u16);
+
+impl Model for Port {
+    ghost use Rattle.std.specs.Prelude.{ℕ, ◌<◌, ◌^◌};
+
+    ghost Value = { ℕ };
+
+    ghost view = { λ port. port.0 };
+
+    ghost invariant = { λ port. port.0 < 2 ^ 16 };
+
+    ghost inverse = { λ number. record { 0 = number } };
+}
+
+impl Port {
+    /// The port of a number.
+    pub fn new(port: u16) -> Port
+        ensures { result ≡ port }
+    {
+        Port(port)
+    }
+
+    /// The number.
+    pub fn port(self) -> u16
+        ensures number { result ≡ self }
+        ensures small { result < 65536 }
+    {
+        self.0
+    }
+
+    /// The port in the next two octets; what stands behind them is left. Refused exactly where fewer remain; the
+    /// parser then stays.
+    #[tactic(auto, using(crate::proofs::Ports::port_rules))]
+    pub fn parse(parser: &mut Parser<'_>) -> Result<Port, ParseError>
+        ensures answer { Gives (λ port. record { value = values.Port port; len = 2 }) result (take_port (left parser.old)) }
+        ensures ok { OnOk result (parser.new ≡ record parser.old { pos = parser.old.pos + 2 }) }
+        ensures within { OnOk result (parser.old.pos + 2 ≤ parser.old.end) }
+        ensures err { OnErr result (parser.new ≡ parser.old) }
+    {
+        // the parser stands within its data
+        let _left = parser.peek_all();
+        Ok(Port(parser.parse_u16()?))
+    }
+}
+
+impl SvcParamValue for Port {
+    ghost key_of = { λ _. 3 };
+
+    fn key(&self) -> SvcParamKey {
+        SvcParamKey::PORT
+    }
+}
+
+impl<'a> ParseSvcParamValue<'a> for Port {
+    ghost Seen = { values.Value };
+
+    ghost seen = { values.Port };
+
+    ghost takes = { λ key. key == 3 };
+
+    ghost reads = { λ _. take_port };
+
+    fn parse_value(key: SvcParamKey, parser: &mut Parser<'a>) -> Result<Option<Port>, ParseError> {
+        // the parser stands within its data
+        let _left = parser.peek_all();
+        if key != SvcParamKey::PORT {
+            return Ok(None);
+        }
+        match Port::parse(parser) {
+            Ok(port) => Ok(Some(port)),
+            Err(error) => Err(error),
+        }
+    }
+}
+
+impl ComposeSvcParamValue for Port {
+    ghost octets = { be2 };
+
+    fn compose_len(&self) -> u16 {
+        2
+    }
+
+    fn compose_value(&self, target: &mut Vec<u8>) -> Result<(), NoMemory> {
+        self.0.compose(target)
+    }
+}
