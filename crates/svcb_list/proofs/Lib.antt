@@ -1,0 +1,3 @@
+mod BuildLemmas
+mod PartLemmas
+mod ProtocolLemmas

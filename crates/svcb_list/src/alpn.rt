@@ -1,0 +1,94 @@
+//! The protocols that a server speaks (RFC 9460, section 7.1).
+
+ghost use Rattle.std.specs.Prelude.{◌≡◌, ◌<◌, ◌∷◌, true, ℕ, List, length, refl, OnOk, OnErr, IfOk};
+ghost use Rattle.wire_spec.specs.Values as values;
+ghost use Rattle.wire_spec.specs.ReadingValues.{protocols, protocols_fault, are_whole};
+
+use crate::item_iter::ItemIter;
+use crate::item_list::{ItemList, ItemListRef};
+use crate::list_type::{ListItems, ListType};
+use registry::{LongSvcParam, SvcParamKey};
+use wire_base::ParseError;
+
+/// The type of `alpn`, whose items are names of protocols of at most 255 octets, each behind its length.
+pub struct AlpnType;
+
+/// The names of the protocols that a server speaks. A value that is read may hold empty names.
+pub type Alpn = ItemList<AlpnType>;
+
+/// A view of protocols.
+pub type AlpnRef<'a> = ItemListRef<'a, AlpnType>;
+
+/// The protocols in order. Each stays in the value's octets.
+pub type AlpnIter<'a> = ItemIter<'a, AlpnType>;
+
+impl ListType for AlpnType {
+    ghost key = { 1 };
+
+    ghost value = { λ octets. values.Alpn (protocols octets) };
+
+    ghost fault = { protocols_fault };
+
+    ghost whole = { are_whole };
+
+    ghost has_key = { λ octets. refl };
+
+    fn key() -> SvcParamKey {
+        SvcParamKey::ALPN
+    }
+
+    #[tactic(auto, using(crate::proofs::ProtocolLemmas::protocols_encoded))]
+    fn check(octets: &[u8]) -> Result<(), ParseError> {
+        LongSvcParam::check_len(octets.len())?;
+        if !are_protocols(octets) {
+            return Err(ParseError::ShortInput);
+        }
+        Ok(())
+    }
+}
+
+// Whether octets are whole protocols, the last of which ends where the octets end.
+#[tactic(auto, using(crate::proofs::ProtocolLemmas::protocols_left, crate::proofs::ProtocolLemmas::protocols_cut))]
+fn are_protocols(octets: &[u8]) -> bool
+    ensures { result ≡ are_whole octets.now }
+{
+    let mut rest = octets;
+    while let Some((len, others)) = rest.split_first() {
+        let len = usize::from(*len);
+        if len > others.len() {
+            return false;
+        }
+        let (_, behind) = others.split_at(len);
+        rest = behind;
+    }
+    true
+}
+
+impl<'a> ListItems<'a> for AlpnType {
+    type Item = &'a [u8];
+
+    ghost Seen = { List ℕ };
+
+    ghost seen = { λ protocol. protocol.now };
+
+    ghost items = { protocols };
+
+    ghost listed = { values.Alpn };
+
+    ghost no_items = { refl };
+
+    ghost lists = { λ octets. refl };
+
+    #[tactic(auto, using(crate::proofs::ProtocolLemmas::protocol_fits, crate::proofs::ProtocolLemmas::others_whole, crate::proofs::ProtocolLemmas::first_protocol))]
+    fn split(octets: &'a [u8]) -> (&'a [u8], &'a [u8])
+        requires some { 0 < length octets.now }
+        requires whole { are_whole octets.now ≡ true }
+        ensures items { protocols octets.now ≡ result.0.now ∷ protocols result.1.now }
+        ensures whole { are_whole result.1.now ≡ true }
+        ensures shorter { length result.1.now < length octets.now }
+    {
+        let len = usize::from(octets[0]);
+        let (_, others) = octets.split_at(1);
+        others.split_at(len)
+    }
+}

@@ -1,0 +1,98 @@
+//! IPv6 addresses at which the target may be reached (RFC 9460, section 7.3).
+
+ghost use Rattle.std.specs.Prelude.{◌≡◌, ◌*◌, ◌<◌, ◌∷◌, ◌%◌, ◌==◌, true, ℕ, List, length, refl, IfOk};
+ghost use Rattle.wire_spec.specs.Values as values;
+ghost use Rattle.svcb_list.specs.Building.{IsBuilt};
+ghost use Rattle.wire_spec.specs.ReadingValues.{parts, parts_fault};
+
+use crate::fixed_item::octets_of;
+use crate::item_iter::ItemIter;
+use crate::item_list::{ItemList, ItemListRef};
+use crate::list_type::{ListItems, ListType};
+use crate::parts::{check_addresses, split_part};
+use registry::{BuildValueError, SvcParamKey};
+use std::alloc::Global;
+use wire_base::{Ipv6Addr, ParseError};
+
+/// The type of `ipv6hint`, whose items are addresses of 16 octets each.
+pub struct Ipv6HintType;
+
+/// IPv6 addresses at which the target may be reached.
+pub type Ipv6Hint = ItemList<Ipv6HintType>;
+
+/// A view of IPv6 addresses.
+pub type Ipv6HintRef<'a> = ItemListRef<'a, Ipv6HintType>;
+
+/// The IPv6 addresses in order.
+pub type Ipv6HintIter<'a> = ItemIter<'a, Ipv6HintType>;
+
+impl Ipv6Hint {
+    /// The value of a list of addresses. `LongSvcParam` exactly over 65,535 octets, which is over 4,095 addresses.
+    #[tactic(auto, using(crate::proofs::BuildLemmas::parts_sound, crate::proofs::PartLemmas::parts_encoded))]
+    pub fn from_addrs(alloc: Global, addrs: &[Ipv6Addr]) -> Result<Ipv6Hint, BuildValueError>
+        ensures value { IfOk result (λ list. list ≡ values.Ipv6Hint addrs.now) }
+        ensures answer { IsBuilt result (length addrs.now * 16) }
+    {
+        match octets_of(alloc, addrs) {
+            Ok(octets) => Ok(ItemList::of(octets)),
+            Err(error) => Err(error),
+        }
+    }
+}
+
+impl ListType for Ipv6HintType {
+    ghost key = { 6 };
+
+    ghost value = { λ octets. values.Ipv6Hint (parts 16 octets) };
+
+    ghost fault = { parts_fault 16 };
+
+    ghost whole = { λ octets. length octets % 16 == 0 };
+
+    ghost has_key = { λ octets. refl };
+
+    fn key() -> SvcParamKey {
+        SvcParamKey::IPV6HINT
+    }
+
+    fn check(octets: &[u8]) -> Result<(), ParseError> {
+        check_addresses(octets, 16)
+    }
+}
+
+impl<'a> ListItems<'a> for Ipv6HintType {
+    type Item = Ipv6Addr;
+
+    ghost Seen = { List ℕ };
+
+    ghost seen = { λ address. address };
+
+    ghost items = { parts 16 };
+
+    ghost listed = { values.Ipv6Hint };
+
+    ghost no_items = { refl };
+
+    ghost lists = { λ octets. refl };
+
+    fn split(octets: &'a [u8]) -> (Ipv6Addr, &'a [u8])
+        requires some { 0 < length octets.now }
+        requires whole { (length octets.now % 16 == 0) ≡ true }
+        ensures items { parts 16 octets.now ≡ result.0 ∷ parts 16 result.1.now }
+        ensures whole { (length result.1.now % 16 == 0) ≡ true }
+        ensures shorter { length result.1.now < length octets.now }
+    {
+        let (part, others) = split_part(octets, 16);
+        (address(part), others)
+    }
+}
+
+// The address of 16 octets.
+fn address(part: &[u8]) -> Ipv6Addr
+    requires { length part.now ≡ 16 }
+    ensures { result ≡ part.now }
+{
+    let mut octets = [0; 16];
+    octets.copy_from_slice(part);
+    Ipv6Addr::new(octets)
+}

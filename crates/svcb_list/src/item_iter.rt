@@ -1,0 +1,73 @@
+//! The items of a list, one after another.
+
+ghost use Rattle.std.specs.Prelude.{◌≡◌, true, ⊤};
+ghost use Rattle.std.specs.Iterator.{YieldsFirstBy, item_count};
+
+use crate::list_type::{ListItems, ListType};
+use std::alloc::AllocError;
+use std::marker::{Model, PhantomData};
+
+/// The items of a list in order. Contracts see the octets of the items that are left.
+#[derive(Drop)]
+pub struct ItemIter<'a, T: ListType> {
+    rest: &'a [u8],
+    kind: PhantomData<T>,
+}
+
+impl<'a, T: ListType> Model for ItemIter<'a, T> {
+    ghost use Rattle.std.specs.Prelude.{◌≡◌, List, ℕ, true};
+
+    ghost Value = { List ℕ };
+
+    ghost view = { λ i. i.rest.now };
+
+    ghost invariant = { λ i. T.whole i.rest.now ≡ true };
+}
+
+impl<'a, T: ListType> ItemIter<'a, T> {
+    /// The items in octets.
+    pub(crate) fn over(octets: &'a [u8]) -> ItemIter<'a, T>
+        requires { T.whole octets.now ≡ true }
+        ensures { result ≡ octets.now }
+    {
+        ItemIter {
+            rest: octets,
+            kind: PhantomData,
+        }
+    }
+}
+
+impl<'a, T: ListItems<'a>> Iterator for ItemIter<'a, T> {
+    type Item = T::Item;
+
+    ghost next_gives = { YieldsFirstBy T.seen (λ octets. T.items octets) };
+
+    ghost remaining = { item_count (λ octets. T.items octets) };
+
+    fn next(&mut self) -> Option<T::Item> {
+        if self.rest.is_empty() {
+            return None;
+        }
+        let (item, rest) = T::split(self.rest);
+        self.rest = rest;
+        Some(item)
+    }
+
+    fn size_hint(&self) -> (usize, Option<usize>) {
+        (0, None)
+    }
+}
+
+/// The same items are left.
+impl<'a, T: ListType> Clone for ItemIter<'a, T> {
+    ghost is_clone = { λ iter copy. copy ≡ iter };
+
+    ghost is_infallible = { λ _. ⊤ };
+
+    fn clone(&self) -> Result<ItemIter<'a, T>, AllocError> {
+        Ok(ItemIter {
+            rest: self.rest,
+            kind: PhantomData,
+        })
+    }
+}

@@ -1,0 +1,73 @@
+//! What tells the lists of items apart.
+
+ghost use Rattle.std.specs.Prelude.{◌≡◌, ◌<◌, ◌∷◌, ℕ, List, [], Bool, true, Option, None, length, OnOk};
+ghost use Rattle.wire_base.specs.Faults.{Gives};
+ghost use Rattle.wire_spec.specs.Octets.{Fault};
+ghost use Rattle.wire_spec.specs.Values.{Value, encode, key_of};
+ghost use Rattle.wire_spec.specs.ReadingValues.{take_all};
+ghost use Rattle.svcb_list.specs.Reading.{all_of};
+
+use registry::SvcParamKey;
+use wire_base::ParseError;
+
+/// A type of service parameter whose value is a list of items.
+pub trait ListType {
+    /// The parameter's key.
+    ghost key: { ℕ };
+
+    /// The value that octets without a fault are.
+    ghost value: { List ℕ → Value };
+
+    /// The first fault of octets that are to be a value.
+    ghost fault: { List ℕ → Option Fault };
+
+    /// Whether octets are whole items.
+    ghost whole: { List ℕ → Bool };
+
+    /// The parameter's key.
+    fn key() -> SvcParamKey
+        ensures { result ≡ key };
+
+    /// Tests octets that are to be a value. Refused by their first fault, and never for want of memory.
+    fn check(octets: &[u8]) -> Result<(), ParseError>
+        ensures answer { Gives (λ _. all_of octets.now (value octets.now)) result (take_all (fault octets.now) (value octets.now) octets.now) }
+        ensures sound { OnOk result (fault octets.now ≡ None) }
+        ensures encodes { OnOk result (encode (value octets.now) ≡ octets.now) }
+        ensures whole { OnOk result (whole octets.now ≡ true) }
+        ensures few { OnOk result (length octets.now < 65536) };
+
+    /// Each value has the key.
+    ghost has_key: { (octets : List ℕ) → key_of (value octets) ≡ key };
+}
+
+/// The items of a type, which may stay in the octets.
+pub trait ListItems<'a>: ListType {
+    /// An item.
+    type Item;
+
+    /// What contracts see of an item.
+    ghost Seen: { Type 0 };
+
+    /// An item, as contracts see it.
+    ghost seen: { Self.Item → Seen };
+
+    /// The items in octets.
+    ghost items: { List ℕ → List Seen };
+
+    /// The value of a list of items.
+    ghost listed: { List Seen → Value };
+
+    /// The first item, and the octets behind it.
+    fn split(octets: &'a [u8]) -> (Self::Item, &'a [u8])
+        requires some { 0 < length octets.now }
+        requires whole { Self.whole octets.now ≡ true }
+        ensures items { items octets.now ≡ seen result.0 ∷ items result.1.now }
+        ensures whole { Self.whole result.1.now ≡ true }
+        ensures shorter { length result.1.now < length octets.now };
+
+    /// No octets are no items.
+    ghost no_items: { items [] ≡ [] };
+
+    /// The value that octets are is that of their items.
+    ghost lists: { (octets : List ℕ) → Self.value octets ≡ listed (items octets) };
+}
