@@ -1,0 +1,2 @@
+pub mod AllValues
+pub mod AllValuesRef
