@@ -1,0 +1,9 @@
+pub mod Parameters
+pub mod ParameterLaws
+pub mod Items
+pub mod Laws
+pub mod Build
+pub mod Pushing
+pub mod PushErrors
+pub mod Closures
+pub mod ValueFaults
