@@ -1,3 +1,4 @@
-pub mod Reading
-pub mod Builds
 pub mod Pushes
+pub mod Records
+pub mod ReaderLaws
+pub mod Values

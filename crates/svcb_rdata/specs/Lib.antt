@@ -1,6 +1,5 @@
-pub mod Param
-pub mod AllValues
-pub mod ParamsView
-pub mod Build
-pub mod RecordView
+pub mod RebuildErrors
 pub mod RebuiltView
+pub mod Reading
+pub mod Comparing
+pub mod Laws

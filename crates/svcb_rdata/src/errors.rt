@@ -1,31 +1,11 @@
-//! Why a value is not made, and why record data is not rebuilt.
+//! Why record data is not rebuilt.
 
-ghost use Rattle.std.specs.Prelude.{◌≡◌, ◌≤◌, ◌<◌, OnOk, OnErr};
+ghost use Rattle.std.specs.Prelude.{◌≡◌};
 ghost use Rattle.svcb_rdata.specs.declared.errors.RebuildError.TheVariants as errors;
 
+use svcb_params::BufError;
 use thiserror::Error;
 use wire_base::{LongRecordData, NoMemory, ParseError};
-
-/// The value of a service parameter has more than 65,535 octets.
-#[derive(Clone, Copy, Debug, PartialEq, Eq, Error)]
-#[error("service parameter too long")]
-pub struct LongSvcParam;
-
-impl LongSvcParam {
-    /// The most octets of a value (RFC 9460, section 2.2: its length has 16 bits).
-    pub const MAX_LEN: usize = 65535;
-
-    /// Tests the length of a value in octets. Refused exactly over 65,535.
-    pub fn check_len(len: usize) -> Result<(), LongSvcParam>
-        ensures ok { OnOk result (len ≤ 65535) }
-        ensures long { OnErr result (65535 < len) }
-    {
-        if len > LongSvcParam::MAX_LEN {
-            return Err(LongSvcParam);
-        }
-        Ok(())
-    }
-}
 
 /// Why record data was not rebuilt.
 #[derive(Clone, Copy, Debug, PartialEq, Eq, Error)]
@@ -65,5 +45,19 @@ impl From<NoMemory> for RebuildError {
 
     fn from(_error: NoMemory) -> RebuildError {
         RebuildError::NoMemory
+    }
+}
+
+impl From<BufError> for RebuildError {
+    ghost use Rattle.std.specs.Prelude.{◌≡◌};
+    ghost use Rattle.svcb_rdata.specs.RebuildErrors.{error_of_buf};
+
+    ghost from_gives = { λ buf error. error ≡ error_of_buf buf };
+
+    fn from(error: BufError) -> RebuildError {
+        match error {
+            BufError::ShortBuf => RebuildError::ShortBuf,
+            BufError::NoMemory => RebuildError::NoMemory,
+        }
     }
 }

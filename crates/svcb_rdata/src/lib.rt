@@ -1,24 +1,28 @@
-//! The data of SVCB and HTTPS records (RFC 9460), with parameters added.
+//! The data of SVCB and HTTPS records (RFC 9460), read, built, compared, and with parameters added.
 #![tactic(auto)]
 
-mod all_values;
-mod builder;
+mod comparisons;
 mod errors;
-mod octets;
-mod params;
+pub mod laws;
+mod pushed;
+mod rdata;
 mod rebuild;
-mod record;
 mod replies;
-mod unknown;
-mod value_view;
+mod svcb_ref;
+mod variant;
 
-pub use all_values::AllValues;
-pub use errors::{LongSvcParam, RebuildError};
+pub use errors::RebuildError;
+pub use rdata::{Https, Svcb, SvcbRdata};
 pub use rebuild::{Rebuilt, rebuild_svcb};
-pub use registry::SvcParamKey;
+pub use registry::{LongSvcParam, SvcParamKey};
 pub use replies::Replies;
-pub use unknown::UnknownSvcParam;
+pub use svcb_ref::SvcbRef;
+pub use svcb_text::AllValues;
+pub use svcb_value::UnknownSvcParam;
+pub use variant::{HttpsVariant, SvcVariant, SvcbVariant};
 pub use wire_spec::Reply;
 
+#[cfg(test)]
+mod record_tests;
 #[cfg(test)]
 mod tests;

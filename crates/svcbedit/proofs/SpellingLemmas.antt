@@ -1,6 +1,6 @@
 -- Facts on the values that lines push.
-use Rattle.std.proofs.Common.{◌≡◌, ℕ, ◌+◌, List, [], ◌∷◌, ◌++◌, Option, Some, None, Result, Ok, Err, refl, sym, ap, ◌∙◌}
-use Rattle.std.proofs.lemmas.List.{append_assoc, append-nil}
+use Rattle.std.proofs.Common.{◌≡◌, ℕ, ◌+◌, List, [], ◌∷◌, ◌++◌, map, Option, Some, None, Result, Ok, Err, refl, sym, ap, ◌∙◌}
+use Rattle.std.proofs.lemmas.List.{append_assoc, append-nil, map-append}
 use Rattle.wire_spec.specs.Values.{Value}
 use Rattle.svcbedit.specs.Pushes.{push_of}
 use Rattle.svcbedit.specs.Spelling.{needed, pushes_of, ◌>>=◌}
@@ -24,6 +24,15 @@ pub behind-more : (front : List Value) (number : ℕ) (line : List ℕ) (more : 
 behind-more front number line more push e =
     ap (λ (o : Option Value). behind front (needed number o >>= λ p. pushes_of (number + 1) more >>= λ ps. Ok (p ∷ ps))) (sym e)
     ∙ behind-cons front push (pushes_of (number + 1) more)
+
+-- and so the item that holds the value
+pub behind-pushed : {X : Type 0} (value_of : X → Value) (items items' : List X) (push : X) (number : ℕ) (line : List ℕ) (lines more : List (List ℕ))
+    → lines ≡ line ∷ more → Some (value_of push) ≡ push_of line → items' ≡ items ++ push ∷ []
+    → behind (map value_of items) (pushes_of number lines) ≡ behind (map value_of items') (pushes_of (number + 1) more)
+behind-pushed value_of items items' push number line lines more is e grown =
+    ap (λ ls. behind (map value_of items) (pushes_of number ls)) is
+    ∙ behind-more (map value_of items) number line more (value_of push) e
+    ∙ ap (λ front. behind front (pushes_of (number + 1) more)) (sym (ap (map value_of) grown ∙ map-append value_of items (push ∷ [])))
 
 -- a line that pushes none is a fault
 pub behind-bad : (front : List Value) (number : ℕ) (line : List ℕ) (more : List (List ℕ)) → None ≡ push_of line

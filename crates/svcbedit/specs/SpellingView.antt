@@ -1,6 +1,6 @@
 -- The spelling that the program keeps, as its definition sees it.
 use Rattle.std.specs.Prelude.{map}
-use Rattle.svcb_rdata.specs.AllValues.{value_of}
+use Rattle.svcb_text.specs.AllValues.{value_of}
 use Rattle.svcbedit.specs.Spelling.{Spelled}
 use Rattle.svcbedit.specs.declared.spelling.Spelling.{Spelling}
 

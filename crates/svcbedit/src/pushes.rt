@@ -2,7 +2,7 @@
 ghost use Rattle.std.specs.Prelude.{◌≡◌, ◌<◌, ◌≤◌, length, IfOk, MatchOption};
 ghost use Rattle.std.specs.Option.{option_map, option_copied};
 ghost use Rattle.wire_spec.specs.Values.{Unknown};
-ghost use Rattle.svcb_rdata.specs.AllValues.{value_of};
+ghost use Rattle.svcb_text.specs.AllValues.{value_of};
 ghost use Rattle.svcbedit.specs.Pushes.{key_of, value_octets, raw_value, push_of};
 
 use crate::hexadecimal::octets_in;

@@ -2,7 +2,7 @@
 ghost use Rattle.std.specs.Prelude.{◌≡◌, ◌≢◌, ◌+◌, ◌<◌, ◌≤◌, ◌^◌, ◌++◌, length, map, string_bytes, IfOk};
 ghost use Rattle.hex.specs.Hex.{encode_lower};
 ghost use Rattle.wire_spec.specs.Rebuilding.{rebuild};
-ghost use Rattle.svcb_rdata.specs.AllValues.{value_of};
+ghost use Rattle.svcb_text.specs.AllValues.{value_of};
 ghost use Rattle.svcbedit.specs.Report.{line, reply_text, reply_lines, refused, rebuilt, edited};
 ghost use Rattle.svcbedit.specs.ReportView.{answer_view};
 

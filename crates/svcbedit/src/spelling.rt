@@ -1,6 +1,6 @@
 //! What an input of `edit` spells.
 ghost use Rattle.std.specs.Prelude.{◌≡◌, ◌+◌, ◌^◌, ◌<◌, ◌≤◌, List, [], length, drop, map, Some, IfOk, IfErr, OnOk, slice_get, option_and_then};
-ghost use Rattle.svcb_rdata.specs.AllValues.{value_of};
+ghost use Rattle.svcb_text.specs.AllValues.{value_of};
 ghost use Rattle.svcbedit.specs.Lines.{lines};
 ghost use Rattle.svcbedit.specs.Places.{place_of};
 ghost use Rattle.svcbedit.specs.Pushes.{octets_of};

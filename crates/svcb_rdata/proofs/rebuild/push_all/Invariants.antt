@@ -1,6 +1,6 @@
 use Rattle.std.proofs.Common.{◌≡◌, map}
 use Rattle.wire_spec.specs.Rebuilding.{accept}
-use Rattle.svcb_rdata.specs.AllValues.{value_of}
+use Rattle.svcb_text.specs.AllValues.{value_of}
 use Rattle.svcb_rdata.proofs.Pushes.{with_replies, left_from}
 use Rattle.svcb_rdata.proofs.rebuild.push_all.Given as goal
 

@@ -1,6 +1,6 @@
 -- The values so far, and those of the lines that are left, are those of all lines.
 use Rattle.std.proofs.Common.{◌≡◌, ◌+◌, ◌^◌, ◌≤◌, length, map}
-use Rattle.svcb_rdata.specs.AllValues.{value_of}
+use Rattle.svcb_text.specs.AllValues.{value_of}
 use Rattle.svcbedit.specs.Spelling.{pushes_of}
 use Rattle.svcbedit.proofs.SpellingLemmas.{behind}
 use Rattle.svcbedit.proofs.spelling.push_lines.Given as goal

@@ -1,0 +1,209 @@
+//! Owned record data of SVCB and HTTPS.
+
+ghost use Rattle.std.specs.Prelude.{◌≡◌, ◌==◌, ◌-◌, ◌≤◌, ◌<◌, ◌++◌, not, length, Some, IfOk, OnOk, OnErr};
+ghost use Rattle.wire_spec.specs.Records.{Record, rdata, read, IsRecord};
+ghost use Rattle.wire_base.specs.Faults.{GivesCopy};
+ghost use Rattle.svcb_rdata.specs.Reading.{data_read};
+
+use crate::svcb_ref::SvcbRef;
+use crate::variant::{HttpsVariant, SvcVariant, SvcbVariant};
+use std::alloc::Global;
+use std::cmp::Ordering;
+use std::marker::{Model, PhantomData};
+use svcb_params::SvcParams;
+use wire_base::{
+    CanonicalOrd, ComposeRecordData, LongRecordData, Name, NoMemory, ParseError, ParseRecordData,
+    Parser, RecordData, Rtype,
+};
+
+/// The data of a record of the type that `V` marks (RFC 9460, section 2.2), at most 65,535 octets. Contracts see its
+/// priority, the labels of its target, and its parameters.
+///
+/// Data is compared by priority, then target, ASCII case ignored, then parameters by their octets.
+#[derive(Drop)]
+pub struct SvcbRdata<V> {
+    priority: u16,
+    target: Name,
+    params: SvcParams,
+    variant: PhantomData<V>,
+}
+
+/// The data of an SVCB record.
+pub type Svcb = SvcbRdata<SvcbVariant>;
+
+/// The data of an HTTPS record.
+pub type Https = SvcbRdata<HttpsVariant>;
+
+impl<V> Model for SvcbRdata<V> {
+    ghost use Rattle.wire_spec.specs.Records.{Record, IsRecord};
+
+    ghost Value = { Record };
+
+    ghost view = { λ found. record { priority = found.priority; labels = found.target; pairs = found.params } };
+
+    ghost invariant = { λ found. IsRecord (record { priority = found.priority; labels = found.target; pairs = found.params }) };
+}
+
+impl<V> SvcbRdata<V> {
+    /// The record data of parts that are known to be one.
+    pub(crate) fn of(priority: u16, target: Name, params: SvcParams) -> SvcbRdata<V>
+        requires { IsRecord (record { priority = priority; labels = target; pairs = params }) }
+        ensures { result ≡ record { priority = priority; labels = target; pairs = params } }
+    {
+        SvcbRdata {
+            priority,
+            target,
+            params,
+            variant: PhantomData,
+        }
+    }
+
+    /// The record data of its parts. Refused exactly where it would have more than 65,535 octets; the parts are then
+    /// dropped.
+    pub fn new(
+        priority: u16,
+        target: Name,
+        params: SvcParams,
+    ) -> Result<SvcbRdata<V>, LongRecordData>
+        ensures made { IfOk result (λ made. made ≡ record { priority = priority; labels = target; pairs = params }) }
+        ensures ok { OnOk result (length (rdata priority target params) ≤ 65535) }
+        ensures long { OnErr result (65535 < length (rdata priority target params)) }
+    {
+        LongRecordData::check_append_len(2 + usize::from(target.compose_len()), params.len())?;
+        Ok(SvcbRdata::of(priority, target, params))
+    }
+
+    /// Reads the record data in all octets before the end of the data, and copies it. Its target is then uncompressed.
+    ///
+    /// `ShortInput`: the data ends within a part of it. `Form`: it has more than 65,535 octets as it stands or
+    /// uncompressed, its target has that fault, or a key isn't above the one before it. `NoMemory`: the data has no
+    /// fault, and the memory for the copy isn't there. The parser then stays.
+    pub fn parse(alloc: Global, parser: &mut Parser<'_>) -> Result<SvcbRdata<V>, ParseError>
+        ensures answer { GivesCopy (λ found. found) result (read parser.old.message parser.old.pos (parser.old.end - parser.old.pos)) }
+        ensures ok { OnOk result (parser.new ≡ record parser.old { pos = parser.old.end }) }
+        ensures err { OnErr result (parser.new ≡ parser.old) }
+    {
+        let start = parser.pos();
+        let found: SvcbRef<'_, V> = SvcbRef::parse(parser)?;
+        match found.to_owned_data(alloc) {
+            Ok(owned) => Ok(owned),
+            Err(NoMemory) => {
+                parser.seek(start)?;
+                Err(ParseError::NoMemory)
+            }
+        }
+    }
+
+    /// The priority; 0 is alias mode (RFC 9460, section 2.4.1).
+    pub fn priority(&self) -> u16
+        ensures { result ≡ self.now.priority }
+    {
+        self.priority
+    }
+
+    /// Whether the record is in alias mode.
+    pub fn is_alias(&self) -> bool
+        ensures { result ≡ (self.now.priority == 0) }
+    {
+        self.priority == 0
+    }
+
+    /// Whether the record is in service mode.
+    pub fn is_service(&self) -> bool
+        ensures { result ≡ not (self.now.priority == 0) }
+    {
+        self.priority != 0
+    }
+
+    /// The target name.
+    pub fn target(&self) -> &Name
+        ensures { result.now ≡ self.now.labels }
+    {
+        &self.target
+    }
+
+    /// The parameters.
+    pub fn params(&self) -> &SvcParams
+        ensures { result.now ≡ self.now.pairs }
+    {
+        &self.params
+    }
+
+    /// A copy. Refused for want of memory alone.
+    pub fn try_clone(&self, alloc: Global) -> Result<SvcbRdata<V>, NoMemory>
+        ensures { IfOk result (λ copy. copy ≡ self.now) }
+    {
+        let target = self.target.try_clone(alloc)?;
+        let params = self.params.try_clone(alloc)?;
+        Ok(SvcbRdata::of(self.priority, target, params))
+    }
+
+    /// The count of octets.
+    fn len(&self) -> u16
+        ensures { result ≡ length (rdata self.now.priority self.now.labels self.now.pairs) }
+    {
+        2 + self.target.compose_len() + self.params.len() as u16
+    }
+}
+
+impl<V: SvcVariant> RecordData for SvcbRdata<V> {
+    ghost rtype_of = { λ _. V.RTYPE };
+
+    fn rtype(&self) -> Rtype {
+        V::RTYPE
+    }
+}
+
+impl<V: SvcVariant> ComposeRecordData for SvcbRdata<V> {
+    ghost octets = { λ found. rdata found.priority found.labels found.pairs };
+
+    fn rdlen(&self, _compress: bool) -> Option<u16> {
+        Some(self.len())
+    }
+
+    fn compose_rdata(&self, target: &mut Vec<u8>) -> Result<(), NoMemory> {
+        target.reserve(usize::from(self.len()))?;
+        let priority = self.priority.to_be_bytes();
+        target.extend_from_slice(&priority).unwrap();
+        target.extend_from_slice(self.target.as_slice()).unwrap();
+        target.extend_from_slice(self.params.as_slice()).unwrap();
+        Ok(())
+    }
+}
+
+impl<V: SvcVariant> ParseRecordData for SvcbRdata<V> {
+    ghost Seen = { Record };
+
+    ghost seen = { λ found. found };
+
+    ghost takes = { λ rtype. rtype == V.RTYPE };
+
+    ghost reads = { data_read };
+
+    fn parse_rdata(
+        alloc: Global,
+        rtype: Rtype,
+        parser: &mut Parser<'_>,
+    ) -> Result<Option<SvcbRdata<V>>, ParseError> {
+        if rtype != V::RTYPE {
+            return Ok(None);
+        }
+        let found = SvcbRdata::parse(alloc, parser)?;
+        Ok(Some(found))
+    }
+}
+
+/// By priority, then the target's octets, their case included, then the parameters' octets.
+impl<V: SvcVariant> CanonicalOrd for SvcbRdata<V> {
+    ghost group = { λ _. V.RTYPE };
+
+    ghost canonical = { λ found. rdata found.priority found.labels found.pairs };
+
+    #[tactic(auto, using(wire_spec::proofs::OrderLaws::data_orders))]
+    fn canonical_cmp(&self, other: &SvcbRdata<V>) -> Ordering {
+        self.priority
+            .cmp(&other.priority)
+            .then(self.target.as_slice().cmp(other.target.as_slice()))
+            .then(self.params.as_slice().cmp(other.params.as_slice()))
+    }
+}

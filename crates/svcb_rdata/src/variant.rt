@@ -1,0 +1,34 @@
+//! The record types that share this record data.
+
+ghost use Rattle.std.specs.Prelude.{ℕ};
+
+use wire_base::Rtype;
+
+/// A record type whose data is that of SVCB (RFC 9460, sections 2 and 9).
+pub trait SvcVariant {
+    /// The number of the record type.
+    ghost RTYPE: { ℕ };
+
+    /// The record type.
+    const RTYPE: Rtype;
+}
+
+/// SVCB, the service binding of any protocol.
+#[derive(Clone, Copy, Debug, PartialEq, Eq, Hash)]
+pub struct SvcbVariant;
+
+/// HTTPS, the service binding of HTTP.
+#[derive(Clone, Copy, Debug, PartialEq, Eq, Hash)]
+pub struct HttpsVariant;
+
+impl SvcVariant for SvcbVariant {
+    ghost RTYPE = { 64 };
+
+    const RTYPE: Rtype = Rtype::SVCB;
+}
+
+impl SvcVariant for HttpsVariant {
+    ghost RTYPE = { 65 };
+
+    const RTYPE: Rtype = Rtype::HTTPS;
+}
