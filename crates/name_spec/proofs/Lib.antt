@@ -1,0 +1,6 @@
+pub mod NameLaws
+pub mod OwnedNameLaws
+pub mod NameOrders
+pub mod OctetLaws
+pub mod NameTruncation
+mod Vectors

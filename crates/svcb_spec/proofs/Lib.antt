@@ -1,0 +1,13 @@
+pub mod PairLaws
+pub mod PartLaws
+pub mod WireLaws
+mod ReadPairs
+pub mod ItemLaws
+pub mod PairsBack
+pub mod ValueLaws
+mod Vectors
+mod RecordLaws
+pub mod RebuildLaws
+pub mod OrderLaws
+mod Truncation
+mod TruncationVectors

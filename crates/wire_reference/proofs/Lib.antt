@@ -1,3 +1,0 @@
-pub mod Inserts
-pub mod Wires
-pub mod Labels

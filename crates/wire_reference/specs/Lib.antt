@@ -1,4 +1,0 @@
-pub mod Answers
-pub mod Views
-pub mod Values
-pub mod Rebuilt

@@ -1,5 +1,0 @@
-use Rattle.wire_spec.proofs.RebuildLaws.{accept-holds}
-use Rattle.wire_spec.proofs.laws.accepted_held.Goals as goal
-
-pub returns : goal.returns
-returns c = accept-holds

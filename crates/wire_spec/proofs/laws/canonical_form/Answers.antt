@@ -1,5 +1,0 @@
-use Rattle.wire_spec.proofs.RebuildLaws.{canonical_form}
-use Rattle.wire_spec.proofs.laws.canonical_form.Goals as goal
-
-pub returns : goal.returns
-returns c = canonical_form

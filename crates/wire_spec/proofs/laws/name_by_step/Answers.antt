@@ -1,5 +1,0 @@
-use Rattle.wire_spec.proofs.NameLaws.{name_at-step}
-use Rattle.wire_spec.proofs.laws.name_by_step.Goals as goal
-
-pub returns : goal.returns
-returns c = name_at-step

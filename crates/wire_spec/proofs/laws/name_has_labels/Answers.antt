@@ -1,5 +1,0 @@
-use Rattle.wire_spec.proofs.OwnedNameLaws.{AreLabels-read}
-use Rattle.wire_spec.proofs.laws.name_has_labels.Goals as goal
-
-pub returns : goal.returns
-returns c = AreLabels-read

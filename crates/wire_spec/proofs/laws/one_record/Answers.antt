@@ -1,5 +1,0 @@
-use Rattle.wire_spec.proofs.RecordLaws.{one_record}
-use Rattle.wire_spec.proofs.laws.one_record.Goals as goal
-
-pub returns : goal.returns
-returns c = one_record

@@ -1,5 +1,0 @@
-use Rattle.wire_spec.proofs.PairLaws.{pairs_at-step}
-use Rattle.wire_spec.proofs.laws.pairs_by_step.Goals as goal
-
-pub returns : goal.returns
-returns c = pairs_at-step

@@ -1,6 +1,0 @@
-use Rattle.wire_spec.proofs.PairsBack.{wire-pairs_at}
-use Rattle.wire_spec.proofs.ItemLaws.{small_octets}
-use Rattle.wire_spec.proofs.laws.pairs_in_wire.Goals as goal
-
-pub returns : goal.returns
-returns c = λ octets pairs are read. wire-pairs_at octets pairs (small_octets octets are) read

@@ -1,5 +1,0 @@
-use Rattle.wire_spec.proofs.ValueLaws.{values_in_octets}
-use Rattle.wire_spec.proofs.laws.values_in_octets.Goals as goal
-
-pub returns : goal.returns
-returns c = values_in_octets

@@ -1,5 +1,0 @@
-use Rattle.wire_spec.proofs.ValueLaws.{values_read_back}
-use Rattle.wire_spec.proofs.laws.values_read_back.Goals as goal
-
-pub returns : goal.returns
-returns c = values_read_back

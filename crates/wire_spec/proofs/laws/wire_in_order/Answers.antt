@@ -1,5 +1,0 @@
-use Rattle.wire_spec.proofs.WireLaws.{wire-pairs}
-use Rattle.wire_spec.proofs.laws.wire_in_order.Goals as goal
-
-pub returns : goal.returns
-returns c = wire-pairs
