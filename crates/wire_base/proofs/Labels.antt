@@ -2,7 +2,7 @@
 use Rattle.std.proofs.Common.{◌≡◌, ℕ, ◌+◌, List, drop, Option, Some, None, Bor, sym, ap, ◌∙◌}
 use Rattle.std.specs.Iterator.{YieldsFirstRef}
 use Rattle.std.proofs.lemmas.List.{drop-drop}
-use Rattle.wire_spec.specs.Names.{name_at}
+use Rattle.name_spec.specs.Names.{name_at}
 use Rattle.wire_base.specs.NameView.{IsPlace, labels_of}
 
 -- the name at this place can be read, and has these labels

@@ -1,10 +1,10 @@
 -- Octets that are wholly a name.
 use Rattle.std.proofs.Common.{◌≡◌, ℕ, ◌<◌, ◌≤◌, ◌==◌, if◌then◌else◌, Bool, true, false, List, [], ◌∷◌, length, Result, Ok, Err, IsOk, refl, sym, ap, ◌∙◌, arith, length-append}
 use Rattle.std.proofs.lemmas.Bool.Decides.{nat_tests}
-use Rattle.wire_spec.specs.Octets.{Fault, Form, ◌>>=◌}
-use Rattle.wire_spec.specs.Names.{NameRead, name_at, name_wire, is_pointed, AreLabels}
-use Rattle.wire_spec.specs.OwnedNames.{labels_to, name_in}
-use Rattle.wire_spec.proofs.OwnedNameLaws.{name_in-read, name_in-labels, name_in-wire, name_in-name_wire, name_in-plain, name_in-pointed, length-name_wire, length-labels, AreLabels-read}
+use Rattle.name_spec.specs.Octets.{Fault, Form, ◌>>=◌}
+use Rattle.name_spec.specs.Names.{NameRead, name_at, name_wire, is_pointed, AreLabels}
+use Rattle.name_spec.specs.OwnedNames.{labels_to, name_in}
+use Rattle.name_spec.proofs.OwnedNameLaws.{name_in-read, name_in-labels, name_in-wire, name_in-name_wire, name_in-plain, name_in-pointed, length-name_wire, length-labels, AreLabels-read}
 use Rattle.wire_base.specs.NameView.{IsPlace, IsName, labels_of}
 use Rattle.wire_base.specs.OwnedNameView.{labels_found, labels_in, IsWholeName}
 
@@ -35,28 +35,28 @@ module _ (octets : List ℕ) (labels : List (List ℕ)) (wire : octets ≡ name_
   pub IsPlace-wire : IsPlace octets (length octets) 0 0 0
   IsPlace-wire = record {
     in_message = omega arith;
-    few_octets = omega arith;
-    few_pointers = omega arith;
+    octets_fit = omega arith;
+    pointers_fit = omega arith;
     read = rw (name_in-read octets labels found).read refl;
   }
 
-some_octets : (labels : List (List ℕ)) → 0 < length (name_wire labels)
-some_octets [] = omega arith
-some_octets (label ∷ labels) = omega arith
+not_empty : (labels : List (List ℕ)) → 0 < length (name_wire labels)
+not_empty [] = omega arith
+not_empty (label ∷ labels) = omega arith
 
-pub few_octets : (labels : List (List ℕ)) → AreLabels 0 labels → length (name_wire labels) ≤ 255
-few_octets labels are = omega (arith, length-name_wire 0 labels (omega arith) are)
+pub name_fits : (labels : List (List ℕ)) → AreLabels 0 labels → length (name_wire labels) ≤ 255
+name_fits labels are = omega (arith, length-name_wire 0 labels (omega arith) are)
 
 -- each label has its length octet and another octet at least
-pub few_labels : (labels : List (List ℕ)) → AreLabels 0 labels → length labels ≤ 127
-few_labels labels are = omega (arith, length-labels 0 labels (omega arith) are)
+pub labels_fit : (labels : List (List ℕ)) → AreLabels 0 labels → length labels ≤ 127
+labels_fit labels are = omega (arith, length-labels 0 labels (omega arith) are)
 
 -- a name has one octet exactly if it is the root
 pub is_root-wire : (labels : List (List ℕ)) → (length (name_wire labels) == 1) ≡ (length labels == 0)
 is_root-wire [] = refl
 is_root-wire (label ∷ labels) =
     let long = length-append label (name_wire labels) in
-    let some : 0 < length (name_wire labels) = some_octets labels in
+    let more : 0 < length (name_wire labels) = not_empty labels in
     grind (arith, nat_tests)
 
 -- the root's octet
@@ -69,7 +69,7 @@ module _ (octets : List ℕ) (root : octets ≡ 0 ∷ []) where
 
 pub ruleset root_rules = (IsWholeName-root, labels_in-root)
 
-pub ruleset wire_rules = (IsWholeName-wire, labels_in-wire, labels_of-wire, IsPlace-wire, few_octets, few_labels, is_root-wire)
+pub ruleset wire_rules = (IsWholeName-wire, labels_in-wire, labels_of-wire, IsPlace-wire, name_fits, labels_fit, is_root-wire)
 
 -- ---- reading octets that are wholly a name
 

@@ -1,8 +1,8 @@
 -- Reading a name part by part.
 use Rattle.std.proofs.Common.{◌≡◌, ℕ, ◌+◌, ◌-◌, ◌≤◌, Bool, ◌||◌, List, [], ◌∷◌, ◌++◌, length, drop, Option, Result, Ok, Err, refl, ap, ◌∙◌, arith, length-append, length-take, length-drop, append_assoc}
 use Rattle.std.specs.Prelude.{slice_range, is_some, unwrap_or, IfSome}
-use Rattle.wire_spec.specs.Octets.{Fault}
-use Rattle.wire_spec.specs.Names.{NameRead, with_label, name_at, name_wire, is_pointed}
+use Rattle.name_spec.specs.Octets.{Fault}
+use Rattle.name_spec.specs.Names.{NameRead, with_label, name_at, name_wire, is_pointed}
 
 -- the labels in front of those that are still to be read, and the place behind the first pointer, where there was one
 abbrev pub with_front : List (List ℕ) → Option ℕ → Result NameRead Fault → Result NameRead Fault
@@ -29,8 +29,8 @@ pub record WalksTo (message : List ℕ) (end start pos octets pointers : ℕ) (n
   pub read : name_at message end start 0 0 ≡ with_front front next (name_at message end pos octets pointers)
   pub pointed : is_pointed message end start ≡ (is_some next || is_pointed message end pos)
   pub len : length (name_wire front) ≡ octets + 1
-  pub few_octets : octets ≤ 254
-  pub few_pointers : pointers ≤ 255
+  pub octets_fit : octets ≤ 254
+  pub pointers_fit : pointers ≤ 255
   pub in_data : IfSome next (λ n. n ≤ end)
 
 module _ (message : List ℕ) (end start pos octets pointers : ℕ) (next : Option ℕ) (so_far : WalksTo message end start pos octets pointers next) where
@@ -46,7 +46,7 @@ module _ (message : List ℕ) (end start pos octets pointers : ℕ) (next : Opti
         read = so_far.read ∙ ap (with_front so_far.front next) is ∙ with_front-label so_far.front next label _;
         pointed = so_far.pointed ∙ ap (λ (rest : Bool). is_some next || rest) pointed;
         len = omega (arith, length-name_wire-push so_far.front label, length-slice_range message (pos + 1) len within, so_far.len);
-        few_octets = fits;
-        few_pointers = so_far.few_pointers;
+        octets_fit = fits;
+        pointers_fit = so_far.pointers_fit;
         in_data = so_far.in_data;
       })

@@ -1,6 +1,6 @@
 -- What a reader answers, beside what a definition of reading gives.
 use Rattle.std.specs.Prelude.{◌≡◌, Result, Ok, Err, IsOk}
-use Rattle.wire_spec.specs.Octets as spec
+use Rattle.name_spec.specs.Octets as spec
 use Rattle.wire_base.specs.declared.errors.ParseError.{ParseError}
 use Rattle.wire_base.specs.declared.errors.ParseError.TheVariants.{ShortInput, Form, NoMemory}
 

@@ -1,4 +1,5 @@
 pub mod Input
+pub mod Moving
 pub mod Faults
 pub mod NameView
 pub mod NameParts

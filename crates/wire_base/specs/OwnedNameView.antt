@@ -1,8 +1,8 @@
 -- An owned name, as its callers see it.
 use Rattle.std.specs.Prelude.{◌≡◌, ℕ, List, [], Result, Ok, Err}
-use Rattle.wire_spec.specs.Octets.{Fault}
-use Rattle.wire_spec.specs.Names.{name_wire, AreLabels}
-use Rattle.wire_spec.specs.OwnedNames.{name_in}
+use Rattle.name_spec.specs.Octets.{Fault}
+use Rattle.name_spec.specs.Names.{name_wire, AreLabels}
+use Rattle.name_spec.specs.OwnedNames.{name_in}
 
 -- the labels that were found
 abbrev pub labels_found : Result (List (List ℕ)) Fault → List (List ℕ)

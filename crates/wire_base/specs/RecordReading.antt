@@ -1,6 +1,6 @@
 -- What reading record data answers.
 use Rattle.std.specs.Prelude.{◌≡◌, ℕ, Bool, true, false, Option, Some, None, Result, Ok, Err}
-use Rattle.wire_spec.specs.Octets.{Fault}
+use Rattle.name_spec.specs.Octets.{Fault}
 use Rattle.wire_base.specs.Faults.{IsFaultOf}
 use Rattle.wire_base.specs.declared.errors.ParseError.{ParseError}
 use Rattle.wire_base.specs.declared.errors.ParseError.TheVariants.{ShortInput, Form, NoMemory}
@@ -12,7 +12,8 @@ pub record DataRead (Seen : Type 0) : Type 0 where
 
 -- The answer under a type number: nothing exactly where the type is another. Else the data that reading gives, as
 -- `seen` shows it, or the fault. Memory for what was read may be wanting.
-abbrev pub DataAnswers : {V Seen : Type 0} → (V → Seen) → Result (Option V) ParseError → Bool → Result (DataRead Seen) Fault → Type 0
+abbrev pub DataAnswers : {V Seen : Type 0}
+    → (V → Seen) → Result (Option V) ParseError → Bool → Result (DataRead Seen) Fault → Type 0
 DataAnswers seen result false read = result ≡ Ok None
 DataAnswers seen (Ok None) true read = ⊥
 DataAnswers seen (Ok (Some found)) true (Ok data_read) = data_read.value ≡ seen found

@@ -4,67 +4,40 @@ ghost use Rattle.std.specs.Prelude.{◌≡◌, length};
 
 use std::marker::Model;
 
-/// An IPv4 address (RFC 791), seen as its four octets, the first one first. Addresses are ordered octet by octet.
+/// An address of so many octets, seen as these octets, the first one first. Addresses are ordered octet by octet.
 #[derive(Clone, Copy, Debug, PartialEq, Eq, PartialOrd, Ord, Hash)]
-pub struct Ipv4Addr([u8; 4]);
+pub struct Address<const N: usize>([u8; N]);
 
-impl Model for Ipv4Addr {
+/// An IPv4 address (RFC 791, section 3.2), of four octets.
+pub type Ipv4Addr = Address<4>;
+
+/// An IPv6 address (RFC 4291, section 2), of 16 octets.
+pub type Ipv6Addr = Address<16>;
+
+impl<const N: usize> Model for Address<N> {
     ghost use Rattle.std.specs.Prelude.{◌≡◌, List, ℕ, length};
 
     ghost Value = { List ℕ };
 
     ghost view = { λ address. address.0 };
 
-    ghost invariant = { λ address. length address.0 ≡ 4 };
+    ghost invariant = { λ address. length address.0 ≡ N };
 
     ghost inverse = { λ octets. record { 0 = octets } };
 }
 
-impl Ipv4Addr {
-    /// The address of four octets.
-    pub fn new(octets: [u8; 4]) -> Ipv4Addr
-        ensures { result ≡ octets }
+impl<const N: usize> Address<N> {
+    /// The address of these octets.
+    pub fn new(octets: [u8; N]) -> Address<N>
+        ensures { result ≡ octets.entry }
     {
-        Ipv4Addr(octets)
+        Address(octets)
     }
 
-    /// The four octets.
-    pub fn octets(self) -> [u8; 4]
-        ensures octets { result ≡ self }
-        ensures len { length result ≡ 4 }
-    {
-        self.0
-    }
-}
-
-/// An IPv6 address (RFC 4291), seen as its 16 octets, the first one first. Addresses are ordered octet by octet.
-#[derive(Clone, Copy, Debug, PartialEq, Eq, PartialOrd, Ord, Hash)]
-pub struct Ipv6Addr([u8; 16]);
-
-impl Model for Ipv6Addr {
-    ghost use Rattle.std.specs.Prelude.{◌≡◌, List, ℕ, length};
-
-    ghost Value = { List ℕ };
-
-    ghost view = { λ address. address.0 };
-
-    ghost invariant = { λ address. length address.0 ≡ 16 };
-
-    ghost inverse = { λ octets. record { 0 = octets } };
-}
-
-impl Ipv6Addr {
-    /// The address of 16 octets.
-    pub fn new(octets: [u8; 16]) -> Ipv6Addr
-        ensures { result ≡ octets }
-    {
-        Ipv6Addr(octets)
-    }
-
-    /// The 16 octets.
-    pub fn octets(self) -> [u8; 16]
-        ensures octets { result ≡ self }
-        ensures len { length result ≡ 16 }
+    /// The octets.
+    pub fn octets(self) -> [u8; N]
+        ensures octets { result ≡ self.entry }
+        ensures len { length result ≡ N }
     {
         self.0
     }

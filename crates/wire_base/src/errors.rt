@@ -11,12 +11,12 @@ use thiserror::Error;
 #[error("want of memory")]
 pub struct NoMemory;
 
-/// Octets are missing.
+/// The data ends before the octets that a call reads.
 #[derive(Clone, Copy, Debug, PartialEq, Eq, Error)]
 #[error("short input")]
 pub struct ShortInput;
 
-/// Record data has more than 65,535 octets.
+/// Record data has more than 65,535 octets, which its length field of 16 bits can't hold (RFC 1035, section 3.2.1).
 #[derive(Clone, Copy, Debug, PartialEq, Eq, Error)]
 #[error("long record data")]
 pub struct LongRecordData;
@@ -24,13 +24,13 @@ pub struct LongRecordData;
 /// Why wire data could not be read.
 #[derive(Clone, Copy, Debug, PartialEq, Eq, Error)]
 pub enum ParseError {
-    /// Octets are missing.
+    /// The data ends before the octets that are read.
     #[error("short input")]
     ShortInput,
-    /// An octet, a length, a pointer or two keys are not allowed.
+    /// An octet, a length, a pointer or two keys are not allowed, or octets are left over.
     #[error("form error")]
     Form,
-    /// The memory for a copy isn't there. Views never answer it.
+    /// The memory for a copy isn't there. A call on a view never answers it.
     #[error("want of memory")]
     NoMemory,
 }
@@ -63,7 +63,7 @@ impl From<NoMemory> for ParseError {
     }
 }
 
-/// Data that is too long is no form of record data.
+/// Data that is too long has no form that can be read.
 impl From<LongRecordData> for ParseError {
     ghost from_gives = { λ _ error. error ≡ errors.Form };
 
@@ -73,10 +73,12 @@ impl From<LongRecordData> for ParseError {
 }
 
 impl LongRecordData {
-    /// The most octets of record data (RFC 1035, section 3.2.1: RDLENGTH has 16 bits).
+    /// The most octets of record data (RFC 1035, section 3.2.1, where RDLENGTH has 16 bits).
     pub const MAX_LEN: usize = 65535;
 
-    /// Tests a length in octets. Refused exactly over 65,535.
+    /// Tests the length of record data, in octets.
+    ///
+    /// `LongRecordData`: it is over 65,535.
     pub fn check_len(len: usize) -> Result<(), LongRecordData>
         ensures ok { OnOk result (len ≤ 65535) }
         ensures long { OnErr result (65535 < len) }
@@ -87,7 +89,9 @@ impl LongRecordData {
         Ok(())
     }
 
-    /// Tests the length of data with more octets behind it. Refused exactly where the sum is over 65,535.
+    /// Tests the length of record data with more octets behind it, both lengths in octets.
+    ///
+    /// `LongRecordData`: their exact sum is over 65,535.
     pub fn check_append_len(len: usize, extra_len: usize) -> Result<(), LongRecordData>
         ensures ok { OnOk result (len + extra_len ≤ 65535) }
         ensures long { OnErr result (65535 < len + extra_len) }
@@ -99,7 +103,9 @@ impl LongRecordData {
         Ok(())
     }
 
-    /// Tests the length of data that is joined of parts of these lengths. Refused exactly where the sum is over 65,535.
+    /// Tests the length of record data that is joined of parts of these lengths, in octets.
+    ///
+    /// `LongRecordData`: their exact sum is over 65,535.
     pub fn check_multi_len(lens: &[usize]) -> Result<(), LongRecordData>
         ensures ok { OnOk result (sum lens.now ≤ 65535) }
         ensures long { OnErr result (65535 < sum lens.now) }
@@ -112,10 +118,12 @@ impl LongRecordData {
         Ok(())
     }
 
-    /// The text of the error.
+    /// The text of the error, which `Display` writes too.
     pub fn as_str(&self) -> &'static str
         ensures { result.now ≡ codes "long record data" }
     {
         "long record data"
     }
 }
+
+const _: () = prove!(LongRecordData::MAX_LEN == 65535);

@@ -2,10 +2,11 @@
 
 ghost use Rattle.std.specs.Prelude.{◌≡◌};
 ghost use Rattle.std.specs.Iterator.{YieldsFirstRef, item_count};
-ghost use Rattle.wire_spec.specs.Names.{name_at};
+ghost use Rattle.name_spec.specs.Names.{name_at};
 ghost use Rattle.wire_base.specs.NameView.{IsPlace, labels_of};
 
 use crate::name_parts::{Part, part_at};
+use std::fmt;
 use std::marker::Model;
 
 /// The labels of a name from the first to the last, without the root. Each stays where it is in the message.
@@ -20,14 +21,16 @@ pub struct LabelIter<'a> {
 
 impl<'a> Model for LabelIter<'a> {
     ghost use Rattle.std.specs.Prelude.{List, ℕ};
-    ghost use Rattle.wire_spec.specs.Names.{name_at};
+    ghost use Rattle.name_spec.specs.Names.{name_at};
     ghost use Rattle.wire_base.specs.NameView.{IsPlace, labels_of};
 
     ghost Value = { List (List ℕ) };
 
-    ghost view = { λ i. labels_of (name_at i.message.now i.end i.pos i.octets i.pointers) };
+    ghost view = { λ left. labels_of
+        (name_at left.message.now left.end left.pos left.octets left.pointers) };
 
-    ghost invariant = { λ i. IsPlace i.message.now i.end i.pos i.octets i.pointers };
+    ghost invariant = { λ left. IsPlace
+        left.message.now left.end left.pos left.octets left.pointers };
 }
 
 impl<'a> LabelIter<'a> {
@@ -43,6 +46,16 @@ impl<'a> LabelIter<'a> {
             octets: 0,
             pointers: 0,
         }
+    }
+}
+
+/// Each label that is left, with a dot behind it; octets that aren't printable ASCII are escaped.
+impl fmt::Debug for LabelIter<'_> {
+    fn fmt<W: fmt::Write>(&self, f: &mut fmt::Formatter<W>) -> fmt::Result {
+        for label in self.clone().unwrap() {
+            write!(f, "{}.", label.escape_ascii())?;
+        }
+        Ok(())
     }
 }
 

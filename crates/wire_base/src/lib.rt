@@ -9,15 +9,11 @@ mod name_comparisons;
 mod name_parts;
 mod octets;
 mod owned_name;
-#[cfg(test)]
-mod owned_name_tests;
 mod parser;
 mod records;
 mod rtype;
-#[cfg(test)]
-mod tests;
 
-pub use addresses::{Ipv4Addr, Ipv6Addr};
+pub use addresses::{Address, Ipv4Addr, Ipv6Addr};
 pub use errors::{LongRecordData, NoMemory, ParseError, ShortInput};
 pub use label_iter::LabelIter;
 pub use name::ParsedName;

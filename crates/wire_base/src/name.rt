@@ -1,8 +1,10 @@
 //! Names in a message.
 
-ghost use Rattle.std.specs.Prelude.{◌≡◌, ◌+◌, ◌≤◌, ◌<◌, ◌++◌, length, vec_len, vec_capacity, IfOk, OnOk, OnErr};
-ghost use Rattle.wire_spec.specs.Names.{name_at, name_wire, is_pointed, AreLabels};
+ghost use Rattle.std.specs.Prelude.{◌≡◌, ◌≤◌, length, IfOk, OnOk, OnErr};
+ghost use Rattle.name_spec.specs.Names.{name_wire, AreLabels};
 ghost use Rattle.wire_base.specs.Faults.{Gives};
+ghost use Rattle.wire_base.specs.Moving.{AppendsOctets, LacksRoom};
+ghost use Rattle.wire_base.specs.NameView.{next_name, is_next_pointed};
 
 use crate::errors::{NoMemory, ParseError};
 use crate::label_iter::LabelIter;
@@ -11,9 +13,11 @@ use crate::octets::Octets;
 use crate::owned_name::Name;
 use crate::parser::Parser;
 use std::alloc::Global;
+use std::fmt;
 use std::marker::Model;
 
-/// A name in a message, whose labels are read through its pointers (RFC 1035, section 4.1.4).
+/// A name in a message, whose labels are read through its pointers (RFC 1035, section 4.1.4). Contracts see its labels
+/// without the root, and whether it is compressed.
 #[derive(Drop)]
 pub struct ParsedName<'a> {
     message: &'a [u8],
@@ -24,27 +28,41 @@ pub struct ParsedName<'a> {
 }
 
 impl<'a> Model for ParsedName<'a> {
-    ghost use Rattle.wire_spec.specs.Names.{name_at};
+    ghost use Rattle.name_spec.specs.Names.{name_at};
     ghost use Rattle.wire_base.specs.NameView.{NameView, IsName, labels_of};
 
     ghost Value = { NameView };
 
-    ghost view = { λ n. record { labels = labels_of (name_at n.message.now n.end n.start 0 0); is_compressed = n.is_compressed } };
+    ghost view = { λ name. record {
+      labels = labels_of (name_at name.message.now name.end name.start 0 0);
+      is_compressed = name.is_compressed;
+    } };
 
-    ghost invariant = { λ n. IsName n.message.now n.end n.start n.len };
+    ghost invariant = { λ name. IsName name.message.now name.end name.start name.len };
+}
+
+impl fmt::Debug for ParsedName<'_> {
+    fn fmt<W: fmt::Write>(&self, f: &mut fmt::Formatter<W>) -> fmt::Result {
+        f.debug_struct("ParsedName")
+            .field("labels", &self.labels())
+            .field("is_compressed", &self.is_compressed)
+            .finish()
+    }
 }
 
 impl<'a> ParsedName<'a> {
     /// Reads the name at the parser's place and goes behind its own octets, which end after the first pointer or the
-    /// root. No memory is taken.
+    /// root. No memory is taken, so `NoMemory` is never answered.
     ///
-    /// `ShortInput`: the data ends before the name does. `Form`: a length octet of 64 to 191, a name of more than 255
-    /// octets, a pointer that doesn't go back, or a 256th pointer. The parser then stays.
+    /// `ShortInput`: the data ends within a length, a label or a pointer, or before the root. `Form`: a length octet of 64
+    /// to 191, a name of more than 255 octets uncompressed, a pointer that doesn't go to an earlier place than its own, or
+    /// a 256th pointer. The first of these along the name decides. The parser then stays.
     #[tactic(auto, using(crate::proofs::OwnedNames::labels_read))]
     pub fn parse(parser: &mut Parser<'a>) -> Result<ParsedName<'a>, ParseError>
-        ensures name { Gives (λ name. record { labels = name.labels; next = parser.new.pos }) result (name_at parser.old.message parser.old.end parser.old.pos 0 0) }
+        ensures name { Gives (λ name. record { labels = name.labels; next = parser.new.pos })
+            result (next_name parser.old) }
         ensures labels { IfOk result (λ name. AreLabels 0 name.labels) }
-        ensures pointed { IfOk result (λ name. name.is_compressed ≡ is_pointed parser.old.message parser.old.end parser.old.pos) }
+        ensures pointed { IfOk result (λ name. name.is_compressed ≡ is_next_pointed parser.old) }
         ensures ok { OnOk result (parser.new ≡ record parser.old { pos = parser.new.pos }) }
         ensures err { OnErr result (parser.new ≡ parser.old) }
     {
@@ -62,14 +80,17 @@ impl<'a> ParsedName<'a> {
         })
     }
 
-    /// Whether a pointer was followed to read the name.
+    /// Whether a pointer was followed to read the name, so whether it was compressed on the wire.
+    ///
+    /// RFC 9460, section 2.2, forbids that for the target of SVCB and HTTPS data. Such a target is read all the same, as
+    /// robust readers do, and this call is how a reader tells.
     pub fn is_compressed(&self) -> bool
         ensures { result ≡ self.now.is_compressed }
     {
         self.is_compressed
     }
 
-    /// The labels, without the root.
+    /// The labels from the first to the last, without the root.
     pub fn labels(&self) -> LabelIter<'a>
         ensures { result ≡ self.now.labels }
     {
@@ -79,17 +100,18 @@ impl<'a> ParsedName<'a> {
     /// The count of octets that the name has uncompressed.
     pub fn compose_len(&self) -> u16
         ensures len { result ≡ length (name_wire self.now.labels) }
-        ensures few { result ≤ 255 }
+        ensures fits { result ≤ 255 }
     {
         self.len
     }
 
-    /// Appends the uncompressed octets. Refused only where the target lacks the room for them and there is no memory for
-    /// more; its octets then stay.
+    /// Appends the uncompressed octets.
+    ///
+    /// `NoMemory`: the target has no room for them, and the memory for more isn't there. Its octets then stay.
     pub fn compose(&self, target: &mut Vec<u8>) -> Result<(), NoMemory>
-        ensures ok { OnOk result (target.new.items ≡ target.old.items ++ name_wire self.now.labels) }
-        ensures err { OnErr result (target.new.items ≡ target.old.items) }
-        ensures full { OnErr result (vec_capacity target.old < vec_len target.old + length (name_wire self.now.labels)) }
+        ensures appends { AppendsOctets target.old.items target.new.items
+            (name_wire self.now.labels) result }
+        ensures full { OnErr result (LacksRoom target.old (length (name_wire self.now.labels))) }
     {
         target.reserve(usize::from(self.len))?;
         for label in self.labels() {
@@ -100,7 +122,9 @@ impl<'a> ParsedName<'a> {
         Ok(())
     }
 
-    /// The name by itself, its labels in the same case. Refused only for memory.
+    /// The name by itself, uncompressed, its labels in the same case.
+    ///
+    /// `NoMemory`: the memory for the copy isn't there.
     #[tactic(auto, using(crate::proofs::OwnedNames::copy_rules))]
     pub fn to_name(&self, alloc: Global) -> Result<Name, NoMemory>
         ensures { IfOk result (λ name. name ≡ self.now.labels) }

@@ -4,7 +4,7 @@ ghost use Rattle.std.specs.Prelude.{◌≡◌, ◌≤◌, length, map, drop};
 ghost use Rattle.std.specs.Char.{to_ascii_lowercase};
 ghost use Rattle.std.specs.Ordering.{nat_cmp, ordering_then};
 ghost use Rattle.std.specs.Cmp.Lexicographic.{slice_cmp};
-ghost use Rattle.wire_spec.specs.OwnedNames.{is_same_name, from_last, name_cmp, composed_cmp};
+ghost use Rattle.name_spec.specs.OwnedNames.{is_same_name, from_last, name_cmp, composed_cmp};
 
 use crate::label_iter::LabelIter;
 use crate::owned_name::Name;
@@ -13,7 +13,8 @@ use std::hash::{Hash, Hasher};
 
 /// Compares octets in lower case, a front of the other's octets first.
 fn lowercase_cmp(octets: &[u8], others: &[u8]) -> Ordering
-    ensures { result ≡ slice_cmp nat_cmp (map to_ascii_lowercase octets.now) (map to_ascii_lowercase others.now) }
+    ensures { result ≡ slice_cmp nat_cmp
+        (map to_ascii_lowercase octets.now) (map to_ascii_lowercase others.now) }
 {
     for (octet, other) in octets.iter().zip(others) {
         match octet.to_ascii_lowercase().cmp(&other.to_ascii_lowercase()) {
@@ -42,14 +43,15 @@ fn skip_labels(labels: &mut LabelIter<'_>, count: usize)
 }
 
 /// Compares as many labels of two names from the last to the first. Where none differ, the order is that of the counts.
-#[tactic(auto, using(wire_spec::proofs::NameOrders::pair_rules))]
+#[tactic(auto, using(name_spec::proofs::NameOrders::pair_rules))]
 fn cmp_from_last(
     labels: LabelIter<'_>,
     mut others: LabelIter<'_>,
     count_order: Ordering,
 ) -> Ordering
     requires { length labels ≡ length others }
-    ensures { result ≡ ordering_then (slice_cmp (slice_cmp nat_cmp) (from_last labels.entry) (from_last others.entry)) count_order }
+    ensures { result ≡ ordering_then
+        (slice_cmp (slice_cmp nat_cmp) (from_last labels.entry) (from_last others.entry)) count_order }
 {
     let mut order = count_order;
     for (label, other) in labels.zip(others) {
@@ -60,7 +62,7 @@ fn cmp_from_last(
 }
 
 impl Name {
-    /// Whether the labels are equal, ASCII case ignored.
+    /// Whether the labels are equal, ASCII case ignored (RFC 4343, section 3).
     pub fn name_eq(&self, other: &Name) -> bool
         ensures { result ≡ is_same_name self.now other.now }
     {
@@ -69,7 +71,7 @@ impl Name {
 
     /// Compares names in their canonical order (RFC 4034, section 6.1): label by label from the last, in lower case, and
     /// the name with fewer labels first.
-    #[tactic(auto, using(wire_spec::proofs::NameOrders::order_rules))]
+    #[tactic(auto, using(name_spec::proofs::NameOrders::order_rules))]
     pub fn name_cmp(&self, other: &Name) -> Ordering
         ensures { result ≡ name_cmp self.now other.now }
     {
@@ -93,7 +95,7 @@ impl Name {
 impl PartialEq for Name {
     ghost use Rattle.std.specs.Cmp.Rules.{comparing};
     ghost use Rattle.std.proofs.Common.{rules};
-    ghost use Rattle.wire_spec.specs.OwnedNames.{is_same_name};
+    ghost use Rattle.name_spec.specs.OwnedNames.{is_same_name};
 
     ghost eq = { is_same_name };
 
@@ -114,8 +116,8 @@ impl Eq for Name {
 impl Ord for Name {
     ghost use Rattle.std.specs.Cmp.Rules.{comparing};
     ghost use Rattle.std.proofs.Common.{rules};
-    ghost use Rattle.wire_spec.specs.OwnedNames.{name_cmp};
-    ghost use Rattle.wire_spec.specs.NameOrderLaws.{same_name_ties};
+    ghost use Rattle.name_spec.specs.OwnedNames.{name_cmp};
+    ghost use Rattle.name_spec.specs.NameOrderLaws.{same_name_ties};
 
     ghost cmp = { name_cmp };
 
@@ -135,12 +137,13 @@ impl PartialOrd for Name {
     ghost use Rattle.std.specs.Cmp.{partial_order_from_own_ties};
     ghost use Rattle.std.specs.Cmp.Rules.{comparing};
     ghost use Rattle.std.proofs.Common.{rules};
-    ghost use Rattle.wire_spec.specs.OwnedNames.{name_cmp};
-    ghost use Rattle.wire_spec.specs.NameOrderLaws.{same_name_ties};
+    ghost use Rattle.name_spec.specs.OwnedNames.{name_cmp};
+    ghost use Rattle.name_spec.specs.NameOrderLaws.{same_name_ties};
 
     ghost partial_cmp = { as_partial_cmp name_cmp };
 
-    ghost laws = { partial_order_from_own_ties (Prim.search (comparing, rules) depth 9) same_name_ties };
+    ghost laws = { partial_order_from_own_ties
+        (Prim.search (comparing, rules) depth 9) same_name_ties };
 
     fn partial_cmp(&self, other: &Name) -> Option<Ordering> {
         Some(self.cmp(other))
@@ -151,8 +154,8 @@ impl PartialOrd for Name {
 impl Hash for Name {
     ghost use Rattle.std.specs.List.{flat_map};
     ghost use Rattle.std.specs.Hash as fed;
-    ghost use Rattle.wire_spec.specs.OwnedNames.{lowered_wire};
-    ghost use Rattle.wire_spec.specs.NameOrderLaws.{fed-same};
+    ghost use Rattle.name_spec.specs.OwnedNames.{lowered_wire};
+    ghost use Rattle.name_spec.specs.NameOrderLaws.{fed-same};
 
     ghost hash_input = { λ labels. flat_map fed.u8 (lowered_wire labels) };
 

@@ -1,7 +1,7 @@
 //! The parts of a name in a message: labels and pointers up to the root (RFC 1035, section 4.1.4).
 
 ghost use Rattle.std.specs.Prelude.{◌≤◌, length, MatchResult};
-ghost use Rattle.wire_spec.specs.Names.{name_at};
+ghost use Rattle.name_spec.specs.Names.{name_at};
 ghost use Rattle.wire_base.specs.Faults.{IsFaultOf};
 ghost use Rattle.wire_base.specs.NameParts.{IsPartAt, Spans};
 
@@ -36,7 +36,7 @@ pub(crate) struct Span {
 }
 
 /// The part at a place, behind labels of so many octets with their lengths, and so many pointers.
-#[tactic(auto, using(wire_spec::proofs::NameLaws::name_rules, wire_spec::proofs::NameLaws::pointed_rules))]
+#[tactic(auto, using(name_spec::proofs::NameLaws::name_rules, name_spec::proofs::NameLaws::pointed_rules))]
 pub(crate) fn part_at(
     message: &[u8],
     end: usize,
@@ -45,8 +45,8 @@ pub(crate) fn part_at(
     pointers: usize,
 ) -> Result<Part, ParseError>
     requires in_message { end ≤ length message.now }
-    requires few_octets { octets ≤ 254 }
-    requires few_pointers { pointers ≤ 255 }
+    requires octets_fit { octets ≤ 254 }
+    requires pointers_fit { pointers ≤ 255 }
     ensures { IsPartAt message.now end pos octets pointers result }
 {
     if pos >= end {
@@ -83,7 +83,8 @@ pub(crate) fn part_at(
 /// Reads the name at a place.
 pub(crate) fn span_at(message: &[u8], end: usize, start: usize) -> Result<Span, ParseError>
     requires in_message { end ≤ length message.now }
-    ensures { MatchResult result (Spans message.now end start) (λ error. IsFaultOf error (name_at message.now end start 0 0)) }
+    ensures { MatchResult result (Spans message.now end start)
+        (λ error. IsFaultOf error (name_at message.now end start 0 0)) }
 {
     let mut pos = start;
     let mut octets = 0;

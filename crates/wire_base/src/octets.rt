@@ -10,7 +10,7 @@ use std::hash::{Hash, Hasher};
 use std::marker::Model;
 
 /// A list of octets, which contracts see as that list.
-#[derive(Drop)]
+#[derive(Debug, Drop)]
 pub struct Octets {
     bytes: Vec<u8>,
 }
@@ -27,6 +27,8 @@ impl Octets {
     ghost use Rattle.wire_base.specs.Lending.{LendsOctets};
 
     /// A copy of the octets of a slice.
+    ///
+    /// `NoMemory`: the memory for the copy isn't there.
     pub fn from_slice(alloc: Global, slice: &[u8]) -> Result<Octets, NoMemory>
         ensures { IfOk result (λ octets. octets ≡ slice.now) }
     {
@@ -80,6 +82,8 @@ impl Octets {
     }
 
     /// A copy.
+    ///
+    /// `NoMemory`: the memory for it isn't there.
     pub fn try_clone(&self, alloc: Global) -> Result<Octets, NoMemory>
         ensures { IfOk result (λ octets. octets ≡ self.now) }
     {
@@ -138,7 +142,8 @@ impl PartialOrd for Octets {
 
     ghost partial_cmp = { as_partial_cmp (slice_cmp nat_cmp) };
 
-    ghost laws = { partial_order_from_own_ties (Prim.search (comparing, rules)) (Prim.search (comparing, rules)) };
+    ghost laws = { partial_order_from_own_ties
+        (Prim.search (comparing, rules)) (Prim.search (comparing, rules)) };
 
     fn partial_cmp(&self, other: &Octets) -> Option<Ordering> {
         Some(self.cmp(other))

@@ -1,9 +1,10 @@
 //! Owned names.
 
-ghost use Rattle.std.specs.Prelude.{◌≡◌, ◌+◌, ◌≤◌, ◌==◌, ◌<◌, ◌++◌, [], length, vec_len, vec_capacity, MatchResult, IfOk, OnOk, OnErr};
-ghost use Rattle.wire_spec.specs.Names.{name_wire, is_pointed, AreLabels};
-ghost use Rattle.wire_spec.specs.OwnedNames.{name_in};
+ghost use Rattle.std.specs.Prelude.{◌≡◌, ◌≤◌, ◌==◌, [], length, MatchResult, IfOk, OnErr};
+ghost use Rattle.name_spec.specs.Names.{name_wire, is_pointed, AreLabels};
+ghost use Rattle.name_spec.specs.OwnedNames.{name_in};
 ghost use Rattle.wire_base.specs.Faults.{IsFaultOf, Gives};
+ghost use Rattle.wire_base.specs.Moving.{AppendsOctets, LacksRoom};
 ghost use Rattle.wire_base.specs.OwnedNameView.{labels_in, IsWholeName};
 
 use crate::errors::{NoMemory, ParseError};
@@ -11,6 +12,7 @@ use crate::label_iter::LabelIter;
 use crate::name_parts::span_at;
 use crate::octets::Octets;
 use std::alloc::Global;
+use std::fmt;
 use std::marker::Model;
 
 /// A name by itself, uncompressed (RFC 1035, section 3.1), which contracts see as its labels without the root.
@@ -30,8 +32,14 @@ impl Model for Name {
     ghost invariant = { λ name. IsWholeName name.octets };
 }
 
+impl fmt::Debug for Name {
+    fn fmt<W: fmt::Write>(&self, f: &mut fmt::Formatter<W>) -> fmt::Result {
+        f.debug_tuple("Name").field(&self.labels()).finish()
+    }
+}
+
 /// Whether an octet of 64 or more stands where a label would begin.
-#[tactic(auto, using(wire_spec::proofs::NameLaws::pointed_rules))]
+#[tactic(auto, using(name_spec::proofs::NameLaws::pointed_rules))]
 fn is_compressed(octets: &[u8]) -> bool
     ensures { result ≡ is_pointed octets.now (length octets.now) 0 }
 {
@@ -49,7 +57,8 @@ fn is_compressed(octets: &[u8]) -> bool
 /// Tests that octets are wholly an uncompressed name.
 #[tactic(auto, using(crate::proofs::OwnedNames::reading_rules))]
 fn check_name(octets: &[u8]) -> Result<(), ParseError>
-    ensures { MatchResult result (λ _. IsWholeName octets.now) (λ error. IsFaultOf error (name_in octets.now)) }
+    ensures { MatchResult result (λ _. IsWholeName octets.now)
+        (λ error. IsFaultOf error (name_in octets.now)) }
 {
     if is_compressed(octets) {
         return Err(ParseError::Form);
@@ -62,7 +71,9 @@ fn check_name(octets: &[u8]) -> Result<(), ParseError>
 }
 
 impl Name {
-    /// The root, which has no labels. Refused only for memory.
+    /// The root, which has no labels.
+    ///
+    /// `NoMemory`: the memory for its octet isn't there.
     #[tactic(auto, using(crate::proofs::OwnedNames::root_rules))]
     pub fn root(alloc: Global) -> Result<Name, NoMemory>
         ensures { IfOk result (λ name. name ≡ []) }
@@ -71,10 +82,12 @@ impl Name {
         Ok(Name { octets })
     }
 
-    /// The name that these octets wholly are. They are not copied.
+    /// The name that these octets wholly are. They are not copied, and no memory is taken, so `NoMemory` is never
+    /// answered.
     ///
-    /// `ShortInput`: the octets end before the name does. `Form`: a name of more than 255 octets, octets behind the root,
-    /// or an octet of 64 or more where a label begins, since nothing is compressed here.
+    /// `Form`: an octet of 64 or more where a label begins, since nothing is compressed here; this is tested first. Then
+    /// the first along the name decides: `ShortInput` where the octets end within a label or before the root, `Form` where
+    /// its labels with their lengths are more than 254 octets, and `Form` for octets behind the root.
     pub fn from_octets(octets: Octets) -> Result<Name, ParseError>
         ensures { Gives (λ name. name) result (name_in octets) }
     {
@@ -95,16 +108,16 @@ impl Name {
     pub fn as_slice(&self) -> &[u8]
         ensures octets { result.now ≡ name_wire self.now }
         ensures labels { AreLabels 0 self.now }
-        ensures few { length result.now ≤ 255 }
+        ensures fits { length result.now ≤ 255 }
     {
         self.octets.as_slice()
     }
 
-    /// The labels, without the root.
+    /// The labels from the first to the last, without the root.
     #[tactic(auto, using(crate::proofs::OwnedNames::wire_rules))]
     pub fn labels(&self) -> LabelIter<'_>
         ensures labels { result ≡ self.now }
-        ensures few { length result ≤ 127 }
+        ensures fits { length result ≤ 127 }
     {
         let octets = self.as_slice();
         LabelIter::new(octets, octets.len(), 0)
@@ -121,23 +134,26 @@ impl Name {
     /// The count of octets.
     pub fn compose_len(&self) -> u16
         ensures len { result ≡ length (name_wire self.now) }
-        ensures few { result ≤ 255 }
+        ensures fits { result ≤ 255 }
     {
         self.as_slice().len() as u16
     }
 
-    /// Appends the octets. Refused only where the target lacks the room for them and there is no memory for more; its
-    /// octets then stay.
+    /// Appends the octets.
+    ///
+    /// `NoMemory`: the target has no room for them, and the memory for more isn't there. Its octets then stay.
     pub fn compose(&self, target: &mut Vec<u8>) -> Result<(), NoMemory>
-        ensures ok { OnOk result (target.new.items ≡ target.old.items ++ name_wire self.now) }
-        ensures err { OnErr result (target.new.items ≡ target.old.items) }
-        ensures full { OnErr result (vec_capacity target.old < vec_len target.old + length (name_wire self.now)) }
+        ensures appends { AppendsOctets target.old.items target.new.items
+            (name_wire self.now) result }
+        ensures full { OnErr result (LacksRoom target.old (length (name_wire self.now))) }
     {
         target.extend_from_slice(self.as_slice())?;
         Ok(())
     }
 
-    /// A copy. Refused only for memory.
+    /// A copy.
+    ///
+    /// `NoMemory`: the memory for it isn't there.
     pub fn try_clone(&self, alloc: Global) -> Result<Name, NoMemory>
         ensures { IfOk result (λ name. name ≡ self.now) }
     {

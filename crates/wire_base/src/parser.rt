@@ -1,16 +1,17 @@
 //! Reading a message from left to right.
 
-ghost use Rattle.std.specs.Prelude.{◌≡◌, ◌+◌, ◌-◌, ◌≤◌, ◌<◌, length, slice_index, slice_range, IfOk, OnOk, OnErr};
+ghost use Rattle.std.specs.Prelude.{◌≡◌, ◌+◌, ◌≤◌, ◌<◌, length, slice_index, slice_range, IfOk, OnOk, OnErr};
 ghost use Rattle.std.specs.Int.{w32, from_be_bytes};
-ghost use Rattle.wire_spec.specs.Octets.{number_at};
+ghost use Rattle.name_spec.specs.Octets.{number_at};
 ghost use Rattle.wire_base.specs.Input.{left};
+ghost use Rattle.wire_base.specs.Moving.{TakesOctets};
 
 use crate::errors::ShortInput;
 use std::marker::Model;
 
-/// A place in a message, and the end of the data that is read. The message goes on behind that end, and names may
-/// point into all that stands before it.
-#[derive(Drop)]
+/// A place in a message, and the end of the data that is read. Places and lengths are counted in octets. The message may
+/// go on behind that end; nothing there is read, and names may point into all that stands before it.
+#[derive(Debug, Drop)]
 pub struct Parser<'a> {
     message: &'a [u8],
     end: usize,
@@ -23,13 +24,20 @@ impl<'a> Model for Parser<'a> {
 
     ghost Value = { Input };
 
-    ghost view = { λ p. record { message = p.message.now; end = p.end; pos = p.pos } };
+    ghost view = { λ parser. record {
+      message = parser.message.now;
+      end = parser.end;
+      pos = parser.pos;
+    } };
 
-    ghost invariant = { λ p. record { in_data : p.pos ≤ p.end; in_message : p.end ≤ length p.message.now } };
+    ghost invariant = { λ parser. record {
+      in_data : parser.pos ≤ parser.end;
+      in_message : parser.end ≤ length parser.message.now;
+    } };
 }
 
 impl<'a> Parser<'a> {
-    /// A parser of the whole slice, at its first octet.
+    /// A parser of the whole slice as a message, at its first octet.
     pub fn from_ref(slice: &'a [u8]) -> Parser<'a>
         ensures { result ≡ record { message = slice.now; end = length slice.now; pos = 0 } }
     {
@@ -55,7 +63,7 @@ impl<'a> Parser<'a> {
         self.end
     }
 
-    /// The place in the message, counted in octets.
+    /// The place in the message.
     pub fn pos(&self) -> usize
         ensures pos { result ≡ self.now.pos }
         ensures in_data { self.now.pos ≤ self.now.end }
@@ -79,7 +87,9 @@ impl<'a> Parser<'a> {
         &self.message[self.pos..self.end]
     }
 
-    /// Goes to a place. Refused exactly past the end of the data; the parser then stays.
+    /// Goes to a place in the message, which may be the end of the data.
+    ///
+    /// `ShortInput`: the place is past the end of the data. The parser then stays.
     pub fn seek(&mut self, pos: usize) -> Result<(), ShortInput>
         ensures ok { OnOk result (self.new ≡ record self.old { pos = pos }) }
         ensures within { OnOk result (pos ≤ self.old.end) }
@@ -93,12 +103,11 @@ impl<'a> Parser<'a> {
         Ok(())
     }
 
-    /// Passes over octets. Refused exactly where fewer remain; the parser then stays.
+    /// Passes over so many octets.
+    ///
+    /// `ShortInput`: fewer remain. The parser then stays.
     pub fn advance(&mut self, len: usize) -> Result<(), ShortInput>
-        ensures ok { OnOk result (self.new ≡ record self.old { pos = self.old.pos + len }) }
-        ensures within { OnOk result (self.old.pos + len ≤ self.old.end) }
-        ensures short { OnErr result (self.old.end < self.old.pos + len) }
-        ensures err { OnErr result (self.new ≡ self.old) }
+        ensures takes { TakesOctets self.old self.new len result }
     {
         if len > self.end - self.pos {
             return Err(ShortInput);
@@ -114,27 +123,26 @@ impl<'a> Parser<'a> {
         self.pos = self.end;
     }
 
-    /// The next octets, which stay where they are. Refused exactly where fewer remain; the parser then stays.
+    /// The next octets, which are lent from the message.
+    ///
+    /// `ShortInput`: fewer remain. The parser then stays.
     pub fn parse_octets(&mut self, len: usize) -> Result<&'a [u8], ShortInput>
-        ensures octets { IfOk result (λ octets. octets.now ≡ slice_range self.old.message self.old.pos (self.old.pos + len)) }
+        ensures octets { IfOk result (λ octets. octets.now
+            ≡ slice_range self.old.message self.old.pos (self.old.pos + len)) }
         ensures len { IfOk result (λ octets. length octets.now ≡ len) }
-        ensures ok { OnOk result (self.new ≡ record self.old { pos = self.old.pos + len }) }
-        ensures within { OnOk result (self.old.pos + len ≤ self.old.end) }
-        ensures short { OnErr result (self.old.end < self.old.pos + len) }
-        ensures err { OnErr result (self.new ≡ self.old) }
+        ensures takes { TakesOctets self.old self.new len result }
     {
         let start = self.pos;
         self.advance(len)?;
         Ok(&self.message[start..start + len])
     }
 
-    /// A parser of the next octets on the same message. Refused exactly where fewer remain; the parser then stays.
+    /// A parser of the next octets on the same message, whose data ends behind them.
+    ///
+    /// `ShortInput`: fewer remain. The parser then stays.
     pub fn parse_parser(&mut self, len: usize) -> Result<Parser<'a>, ShortInput>
-        ensures part { IfOk result (λ part. part ≡ record self.old { end = self.old.pos + len }) }
-        ensures ok { OnOk result (self.new ≡ record self.old { pos = self.old.pos + len }) }
-        ensures within { OnOk result (self.old.pos + len ≤ self.old.end) }
-        ensures short { OnErr result (self.old.end < self.old.pos + len) }
-        ensures err { OnErr result (self.new ≡ self.old) }
+        ensures parser { IfOk result (λ part. part ≡ record self.old { end = self.old.pos + len }) }
+        ensures takes { TakesOctets self.old self.new len result }
     {
         let start = self.pos;
         self.advance(len)?;
@@ -145,37 +153,38 @@ impl<'a> Parser<'a> {
         })
     }
 
-    /// The next octet. Refused exactly where none remains; the parser then stays.
+    /// The next octet.
+    ///
+    /// `ShortInput`: none remains. The parser then stays.
     pub fn parse_u8(&mut self) -> Result<u8, ShortInput>
-        ensures number { IfOk result (λ number. number ≡ slice_index self.old.message self.old.pos) }
-        ensures ok { OnOk result (self.new ≡ record self.old { pos = self.old.pos + 1 }) }
-        ensures within { OnOk result (self.old.pos + 1 ≤ self.old.end) }
-        ensures short { OnErr result (self.old.end < self.old.pos + 1) }
-        ensures err { OnErr result (self.new ≡ self.old) }
+        ensures number { IfOk result (λ number. number
+            ≡ slice_index self.old.message self.old.pos) }
+        ensures takes { TakesOctets self.old self.new 1 result }
     {
         let octets = self.parse_octets(1)?;
         Ok(octets[0])
     }
 
-    /// The number in the next two octets. Refused exactly where fewer remain; the parser then stays.
+    /// The number in the next two octets, the high one first (RFC 1035, section 2.3.2).
+    ///
+    /// `ShortInput`: fewer remain. The parser then stays.
+    #[tactic(auto, using(name_spec::proofs::OctetLaws::number_octets))]
     pub fn parse_u16(&mut self) -> Result<u16, ShortInput>
-        ensures number { IfOk result (λ number. number ≡ number_at self.old.message self.old.pos) }
-        ensures ok { OnOk result (self.new ≡ record self.old { pos = self.old.pos + 2 }) }
-        ensures within { OnOk result (self.old.pos + 2 ≤ self.old.end) }
-        ensures short { OnErr result (self.old.end < self.old.pos + 2) }
-        ensures err { OnErr result (self.new ≡ self.old) }
+        ensures number { IfOk result (λ number. number
+            ≡ number_at self.old.message self.old.pos) }
+        ensures takes { TakesOctets self.old self.new 2 result }
     {
         let octets = self.parse_octets(2)?;
-        Ok(u16::from(octets[0]) * 256 + u16::from(octets[1]))
+        Ok(u16::from_be_bytes([octets[0], octets[1]]))
     }
 
-    /// The number in the next four octets. Refused exactly where fewer remain; the parser then stays.
+    /// The number in the next four octets, the high one first (RFC 1035, section 2.3.2).
+    ///
+    /// `ShortInput`: fewer remain. The parser then stays.
     pub fn parse_u32(&mut self) -> Result<u32, ShortInput>
-        ensures number { IfOk result (λ number. number ≡ from_be_bytes w32 (slice_range self.old.message self.old.pos (self.old.pos + 4))) }
-        ensures ok { OnOk result (self.new ≡ record self.old { pos = self.old.pos + 4 }) }
-        ensures within { OnOk result (self.old.pos + 4 ≤ self.old.end) }
-        ensures short { OnErr result (self.old.end < self.old.pos + 4) }
-        ensures err { OnErr result (self.new ≡ self.old) }
+        ensures number { IfOk result (λ number. number
+            ≡ from_be_bytes w32 (slice_range self.old.message self.old.pos (self.old.pos + 4))) }
+        ensures takes { TakesOctets self.old self.new 4 result }
     {
         let octets = self.parse_octets(4)?;
         Ok(u32::from_be_bytes([octets[0], octets[1], octets[2], octets[3]]))

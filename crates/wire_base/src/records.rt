@@ -1,9 +1,10 @@
 //! What record data is, how it is read, composed and ordered.
 
-ghost use Rattle.std.specs.Prelude.{◌≡◌, ℕ, Bool, List, ◌++◌, length, Some, Result, OnOk, OnErr};
-ghost use Rattle.wire_spec.specs.Octets.{Fault};
-ghost use Rattle.wire_spec.specs.CanonicalOrder.{canonical_order};
+ghost use Rattle.std.specs.Prelude.{◌≡◌, ℕ, Bool, List, length, Some, Result, OnOk, OnErr};
+ghost use Rattle.name_spec.specs.Octets.{Fault};
+ghost use Rattle.name_spec.specs.CanonicalOrder.{canonical_order};
 ghost use Rattle.wire_base.specs.Input.{Input};
+ghost use Rattle.wire_base.specs.Moving.{AppendsOctets};
 ghost use Rattle.wire_base.specs.RecordReading.{DataRead, DataAnswers, place_behind};
 
 use crate::errors::{NoMemory, ParseError};
@@ -12,9 +13,11 @@ use crate::rtype::Rtype;
 use std::alloc::Global;
 use std::cmp::Ordering;
 
-/// The data of a record.
+/// The data of a record of one type.
+///
+/// A type says by `rtype_of` which record type each of its values is of, and owes that `rtype` answers it.
 pub trait RecordData {
-    /// The number of the record's type.
+    /// The number of the record's type (RFC 1035, section 3.2.2).
     ghost rtype_of: { Self → ℕ };
 
     /// The type of the record.
@@ -22,34 +25,46 @@ pub trait RecordData {
         ensures { result ≡ rtype_of self.now };
 }
 
-/// Record data that is composed. No names in it are compressed.
-pub trait ComposeRecordData: RecordData {
-    /// The data's octets.
+/// Record data that is composed.
+///
+/// A type says by `octets` what its data is on the wire, with names uncompressed and each octet as the value has it. It
+/// owes that these are at most 65,535 octets, since `rdlen` counts them in 16 bits, that `compose_rdata` appends them,
+/// and that `compose_canonical_rdata` appends what its [`CanonicalOrd`] calls `canonical`. So the octets by which data of
+/// one type is ordered are those that are composed in canonical form. A type without names has the same octets in both
+/// forms; one whose names are lowered in canonical form says so by its own `canonical`.
+pub trait ComposeRecordData: RecordData + CanonicalOrd {
+    /// The data's octets on the wire.
     ghost octets: { Self → List ℕ };
 
-    /// The count of the data's octets, which never depends on whether names may be compressed.
+    /// The count of the data's octets. It is the same whether or not names may be compressed, since none is here, so it
+    /// is never None.
     fn rdlen(&self, compress: bool) -> Option<u16>
         ensures { result ≡ Some (length (octets self.now)) };
 
-    /// Appends the data's octets. Refused for want of memory alone; the target then stays.
+    /// Appends the data's octets.
+    ///
+    /// `NoMemory`: the memory for them isn't there. The target's octets then stay.
     fn compose_rdata(&self, target: &mut Vec<u8>) -> Result<(), NoMemory>
-        ensures ok { OnOk result (target.new.items ≡ target.old.items ++ octets self.now) }
-        ensures err { OnErr result (target.new.items ≡ target.old.items) };
+        ensures appends { AppendsOctets target.old.items target.new.items
+            (octets self.now) result };
 
-    /// Appends the data's octets in canonical form (RFC 4034, section 6.2), which are the same for the types of this
-    /// library. Refused for want of memory alone; the target then stays.
+    /// Appends the data's octets in canonical form (RFC 4034, section 6.2), by which `canonical_cmp` orders data of one
+    /// type.
+    ///
+    /// `NoMemory`: the memory for them isn't there. The target's octets then stay.
     fn compose_canonical_rdata(&self, target: &mut Vec<u8>) -> Result<(), NoMemory>
-        ensures ok { OnOk result (target.new.items ≡ target.old.items ++ octets self.now) }
-        ensures err { OnErr result (target.new.items ≡ target.old.items) }
-    {
-        self.compose_rdata(target)
-    }
+        ensures appends { AppendsOctets target.old.items target.new.items
+            (Self.canonical self.now) result };
+
+    /// What `canonical_cmp` compares first is the number of the record's type.
+    ghost by_type: { (found : Self) → Self.group found ≡ Self.rtype_of found };
 }
 
 /// Record data that is read from a message.
 ///
-/// A type says by `takes` which type numbers it takes, and by `reads` what the octets from a place up to the end of the
-/// data are, or which fault they have. `seen` shows data as contracts see it.
+/// A type says by `takes` which type numbers it takes, by `reads` what the octets from a place up to the end of the data
+/// are and where they end, or which fault they have, and by `seen` how contracts see data that was read. It owes that
+/// `parse_rdata` answers by these, and where the parser then stands.
 pub trait ParseRecordData: RecordData + Sized + Drop {
     /// What contracts see of record data.
     ghost Seen: { Type 0 };
@@ -60,31 +75,40 @@ pub trait ParseRecordData: RecordData + Sized + Drop {
     /// Whether the type takes a type number.
     ghost takes: { ℕ → Bool };
 
-    /// What the octets from a place on are, or their fault.
+    /// What the octets from the parser's place on are, and the place behind them; or their first fault.
     ghost reads: { Input → Result (DataRead Seen) Fault };
 
-    /// The record data at the parser's place; the parser then stands behind it. None exactly where the type takes
-    /// another type number. Refused by the first fault of the octets, or for want of memory. The parser stays where
-    /// there is no data.
+    /// The record data at the parser's place, which then goes behind it. None exactly where the type doesn't take the
+    /// type number; then nothing is read.
+    ///
+    /// `ShortInput`, `Form`: the first fault of the octets. `NoMemory`: they have no fault, and the memory for what was
+    /// read isn't there. The parser then stays.
     fn parse_rdata(
         alloc: Global,
         rtype: Rtype,
         parser: &mut Parser<'_>,
     ) -> Result<Option<Self>, ParseError>
         ensures answer { DataAnswers seen result (takes rtype) (reads parser.old) }
-        ensures ok { OnOk result (parser.new ≡ record parser.old { pos = place_behind parser.old.pos (takes rtype) (reads parser.old) }) }
+        ensures ok { OnOk result (parser.new ≡ record parser.old
+            { pos = place_behind parser.old.pos (takes rtype) (reads parser.old) }) }
         ensures err { OnErr result (parser.new ≡ parser.old) };
 }
 
 /// The canonical order of record data, or of a part of it (RFC 4034, section 6.3).
+///
+/// A type says by `group` and `canonical` what the order goes by, and owes that `canonical_cmp` is that order. Of record
+/// data `group` is the number of the record's type, and `canonical` what is composed in canonical form, as
+/// [`ComposeRecordData`] asks. Of a part of record data `group` is any one number for all values of the type.
 pub trait CanonicalOrd {
-    /// The number of the record's type, or one number for all parts of one kind.
+    /// The number that is compared first.
     ghost group: { Self → ℕ };
 
-    /// The octets in canonical form.
+    /// The octets in canonical form (RFC 4034, section 6.2), which are compared next, octet by octet.
     ghost canonical: { Self → List ℕ };
 
-    /// The order by type numbers, and within a type octet by octet. It takes no memory.
+    /// The canonical order: by `group`, and then by `canonical`, where a front of the other's octets comes first. It
+    /// takes no memory.
     fn canonical_cmp(&self, other: &Self) -> Ordering
-        ensures { result ≡ canonical_order (group self.now) (canonical self.now) (group other.now) (canonical other.now) };
+        ensures { result ≡ canonical_order
+            (group self.now) (canonical self.now) (group other.now) (canonical other.now) };
 }

@@ -27,31 +27,31 @@ impl Rtype {
     /// An IPv6 address (RFC 3596, section 2.1).
     pub const AAAA: Rtype = Rtype(28);
 
-    /// The fingerprint of a key of a host (RFC 4255).
+    /// The fingerprint of a key of a host (RFC 4255, section 3).
     pub const SSHFP: Rtype = Rtype(44);
 
-    /// A key for IPsec (RFC 4025).
+    /// A key for IPsec (RFC 4025, section 2).
     pub const IPSECKEY: Rtype = Rtype(45);
 
-    /// A certificate of a TLS service (RFC 6698).
+    /// A certificate of a TLS service (RFC 6698, section 2).
     pub const TLSA: Rtype = Rtype(52);
 
-    /// A digest of a key for the parent zone (RFC 7344).
+    /// A digest of a key for the parent zone (RFC 7344, section 3.1).
     pub const CDS: Rtype = Rtype(59);
 
-    /// A key for the parent zone (RFC 7344).
+    /// A key for the parent zone (RFC 7344, section 3.2).
     pub const CDNSKEY: Rtype = Rtype(60);
 
-    /// An OpenPGP key (RFC 7929).
+    /// An OpenPGP key (RFC 7929, section 2).
     pub const OPENPGPKEY: Rtype = Rtype(61);
 
-    /// A digest of a zone (RFC 8976).
+    /// A digest of a zone (RFC 8976, section 2).
     pub const ZONEMD: Rtype = Rtype(63);
 
-    /// A service and its parameters (RFC 9460).
+    /// A service and its parameters (RFC 9460, section 14.1).
     pub const SVCB: Rtype = Rtype(64);
 
-    /// An HTTPS service and its parameters (RFC 9460).
+    /// An HTTPS service and its parameters (RFC 9460, section 14.2).
     pub const HTTPS: Rtype = Rtype(65);
 
     /// The type with a number.
@@ -68,3 +68,18 @@ impl Rtype {
         self.0
     }
 }
+
+// Each type has the number of its registry entry.
+const _: () = prove!(
+    Rtype::A.0 == 1
+        && Rtype::AAAA.0 == 28
+        && Rtype::SSHFP.0 == 44
+        && Rtype::IPSECKEY.0 == 45
+        && Rtype::TLSA.0 == 52
+        && Rtype::CDS.0 == 59
+        && Rtype::CDNSKEY.0 == 60
+        && Rtype::OPENPGPKEY.0 == 61
+        && Rtype::ZONEMD.0 == 63
+        && Rtype::SVCB.0 == 64
+        && Rtype::HTTPS.0 == 65
+);

@@ -1,5 +1,5 @@
 use Rattle.std.proofs.Common.{◌≡◌, length}
-use Rattle.wire_spec.proofs.NameOrders.{cmp_from_last}
+use Rattle.name_spec.proofs.NameOrders.{cmp_from_last}
 use Rattle.wire_base.proofs.name_comparisons.cmp_from_last.Given as goal
 
 abbrev pub invariant-loop-label : goal.invariant-loop-label

@@ -1,5 +1,5 @@
 use Rattle.std.proofs.Common.{◌≡◌, ◌-◌, length}
-use Rattle.wire_spec.specs.Names.{is_pointed}
+use Rattle.name_spec.specs.Names.{is_pointed}
 use Rattle.wire_base.proofs.owned_name.is_compressed.Given as goal
 
 abbrev pub invariant-loop-pos : goal.invariant-loop-pos

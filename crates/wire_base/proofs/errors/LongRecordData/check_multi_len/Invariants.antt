@@ -4,5 +4,5 @@ use Rattle.wire_base.proofs.errors.LongRecordData.check_multi_len.Given as goal
 abbrev pub invariant-loop-len : goal.invariant-loop-len
 invariant-loop-len l = record {
   total_is : l.total + sum (drop l.len-index l.lens) ≡ sum l.lens;
-  small : l.total ≤ 65535;
+  fits : l.total ≤ 65535;
 }

@@ -2,7 +2,7 @@ use Rattle.std.proofs.Common.{◌≡◌, map, drop}
 use Rattle.std.specs.Char.{to_ascii_lowercase}
 use Rattle.std.specs.List.{flat_map, fold}
 use Rattle.std.specs.Hash as fed
-use Rattle.wire_spec.specs.OwnedNames.{lowered_wire}
+use Rattle.name_spec.specs.OwnedNames.{lowered_wire}
 use Rattle.wire_base.proofs.name_comparisons.NameHash.hash.Given as goal
 
 abbrev pub invariant-loop-octet : goal.invariant-loop-octet

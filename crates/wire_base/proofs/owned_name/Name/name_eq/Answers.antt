@@ -1,4 +1,4 @@
-use Rattle.wire_spec.proofs.NameOrders.{same_by_octets}
+use Rattle.name_spec.proofs.NameOrders.{same_by_octets}
 use Rattle.wire_base.proofs.owned_name.Name.name_eq.Goals as goal
 
 pub returns : goal.returns
