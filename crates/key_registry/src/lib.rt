@@ -26,6 +26,3 @@ pub use tlsa_matching_type::{TlsaMatchingType, TlsaMatchingTypes};
 pub use tlsa_selector::{TlsaSelector, TlsaSelectors};
 pub use zonemd_algorithm::{ZonemdAlgorithm, ZonemdAlgorithms};
 pub use zonemd_scheme::{ZonemdScheme, ZonemdSchemes};
-
-#[cfg(test)]
-mod tests;

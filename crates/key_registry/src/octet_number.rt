@@ -4,43 +4,47 @@ ghost use Rattle.std.specs.Prelude.{◌≡◌, ℕ, List, Some, true, map, refl}
 ghost use Rattle.std.specs.Result.{result_ok};
 ghost use Rattle.std.specs.Fmt.{decimal};
 ghost use Rattle.registry.specs.Tables.{is_one_line, is_table};
-ghost use Rattle.registry.specs.Texts.{number_text};
-ghost use Rattle.registry.specs.TextLaws.{number_text-octet};
+ghost use Rattle.registry.specs.Texts.{spelled_number};
+ghost use Rattle.registry.specs.TextLaws.{spelled_number-octet};
 
-use registry::{IanaNumber, Integer};
+use registry::{CommentName, IanaNumber, Integer};
 use std::fmt;
 use std::marker::{Model, PhantomData};
 use std::num::ParseIntError;
 use std::str::FromStr;
 
-/// A registry of numbers with one octet.
+/// A registry of numbers with one octet: a type that stands for its table, over which [`OctetNumber`] is the type of
+/// its numbers. All calls and laws of [`IanaNumber`] come with that.
+///
+/// A registry of another crate gives its table and two names, and says by `COMMENT` and `rows` what they are. Where
+/// these are written out, `one_line` and `table` are `refl`, since the check computes them.
 pub trait Registry {
     /// What a comment calls a number.
-    ghost name: { List ℕ };
+    ghost COMMENT: { List ℕ };
 
-    /// The numbers that have a mnemonic, with it.
+    /// The numbers that have a mnemonic, with it: the registry's definition.
     ghost rows: { List (ℕ × List ℕ) };
 
-    /// What a comment calls a number.
-    const SHOW_NAME: &'static str;
+    /// The name of the numbers' type, which `Debug` prints.
+    const TYPE_NAME: &'static str;
 
-    /// What a comment calls a number: the text of `SHOW_NAME`, with a contract.
-    fn comment_name() -> &'static str
-        ensures { result.now ≡ name };
+    /// What a comment calls a number.
+    const COMMENT: CommentName;
 
     /// The registry's numbers that have a mnemonic, with it.
     fn rows() -> &'static [(u8, &'static str)]
         ensures { map (λ row. (row.0, row.1.now)) result.now ≡ rows };
 
     /// What a comment calls a number has no line feed.
-    ghost one_line: { is_one_line name ≡ true };
+    ghost one_line: { is_one_line COMMENT ≡ true };
 
-    /// The numbers fit and are distinct, and so are the mnemonics.
+    /// The numbers fit and are distinct; the mnemonics are distinct in any case and have no line feed.
     ghost table: { is_table 256 rows ≡ true };
 }
 
-/// A number of a registry, which is read and printed as a decimal number. Numbers are ordered as such.
-#[derive_where(Clone, Copy, Debug, PartialEq, Eq, PartialOrd, Ord, Hash)]
+/// A number of a registry, which is read and printed as a decimal number. Any number up to 255 is one, with a mnemonic
+/// or without. Numbers are ordered as such.
+#[derive_where(Clone, Copy, PartialEq, Eq, PartialOrd, Ord, Hash)]
 pub struct OctetNumber<R>(
     pub(crate) u8,
     #[derive_where(skip)] pub(crate) PhantomData<R>,
@@ -59,17 +63,17 @@ impl<R: Registry + 'static> IanaNumber for OctetNumber<R> {
 
     const COMPOSE_LEN: u16 = 1;
 
-    const SHOW_NAME: &'static str = R::SHOW_NAME;
+    const COMMENT: CommentName = R::COMMENT;
 
     ghost COMPOSE_LEN = { 1 };
 
-    ghost name = { R.name };
+    ghost COMMENT = { R.COMMENT };
 
     ghost number = { λ number. number };
 
     ghost rows = { R.rows };
 
-    ghost reads = { number_text 256 };
+    ghost reads = { spelled_number 256 };
 
     ghost prints = { decimal };
 
@@ -83,11 +87,7 @@ impl<R: Registry + 'static> IanaNumber for OctetNumber<R> {
 
     ghost displays = { λ x. refl };
 
-    ghost reads_back = { number_text-octet };
-
-    fn comment_name() -> &'static str {
-        R::comment_name()
-    }
+    ghost reads_back = { spelled_number-octet };
 
     fn rows() -> &'static [(u8, &'static str)] {
         R::rows()
@@ -102,10 +102,14 @@ impl<R: Registry + 'static> IanaNumber for OctetNumber<R> {
     }
 
     fn from_bytes(bytes: &[u8]) -> Option<OctetNumber<R>> {
-        match u8::from_text(bytes) {
-            Some(value) => Some(OctetNumber(value, PhantomData)),
-            None => None,
-        }
+        Some(OctetNumber::from(u8::from_text(bytes)?))
+    }
+}
+
+/// The name of the type with the number, as `TlsaSelector(1)`.
+impl<R: Registry> fmt::Debug for OctetNumber<R> {
+    fn fmt<W: fmt::Write>(&self, f: &mut fmt::Formatter<W>) -> fmt::Result {
+        write!(f, "{}({})", R::TYPE_NAME, self.0)
     }
 }
 
@@ -119,22 +123,19 @@ impl<R> fmt::Display for OctetNumber<R> {
     }
 }
 
-/// A number text of at most 255.
+/// A number text of at most 255: an optional `+`, then decimal digits. Refused by std's error exactly for other texts.
 impl<R> FromStr for OctetNumber<R> {
     type Err = ParseIntError;
 
-    ghost from_str_gives = { λ text result. result_ok result ≡ number_text 256 text };
+    ghost from_str_gives = { λ text result. result_ok result ≡ spelled_number 256 text };
 
     #[tactic(auto, using(registry::specs::TextLaws::parsed_text))]
     fn from_str(text: &str) -> Result<OctetNumber<R>, ParseIntError> {
-        match text.parse::<u8>() {
-            Ok(value) => Ok(OctetNumber(value, PhantomData)),
-            Err(error) => Err(error),
-        }
+        Ok(OctetNumber::from(text.parse::<u8>()?))
     }
 }
 
-/// The value of a number.
+/// The registry's number of that value.
 impl<R> From<u8> for OctetNumber<R> {
     ghost from_gives = { λ value result. result ≡ value };
 

@@ -4,26 +4,30 @@ ghost use Rattle.std.specs.Prelude.{refl, codes};
 ghost use Rattle.key_registry.specs.Tables.{tlsa_matching_types};
 
 use crate::octet_number::{OctetNumber, Registry};
+use registry::CommentName;
 use std::marker::PhantomData;
 
 /// How a TLSA record holds what it matches (RFC 6698, section 2.1.3; its names are those of RFC 7218).
 pub type TlsaMatchingType = OctetNumber<TlsaMatchingTypes>;
 
 /// The registry of [`TlsaMatchingType`].
+#[derive(Debug)]
 pub struct TlsaMatchingTypes;
 
 /// The numbers that have a name.
 impl TlsaMatchingType {
+    /// The octets themselves (RFC 6698, section 2.1.3).
     pub const FULL: TlsaMatchingType = OctetNumber(0, PhantomData);
 
+    /// Their SHA-256 digest (RFC 6698, section 2.1.3).
     pub const SHA2_256: TlsaMatchingType = OctetNumber(1, PhantomData);
 
+    /// Their SHA-512 digest (RFC 6698, section 2.1.3).
     pub const SHA2_512: TlsaMatchingType = OctetNumber(2, PhantomData);
 
+    /// Private use (RFC 6698, section 7.4).
     pub const PRIVMATCH: TlsaMatchingType = OctetNumber(255, PhantomData);
 }
-
-const NAME: &str = "matching type";
 
 const ROWS: [(u8, &str); 4] = [
     (TlsaMatchingType::FULL.0, "Full"),
@@ -33,7 +37,7 @@ const ROWS: [(u8, &str); 4] = [
 ];
 
 impl Registry for TlsaMatchingTypes {
-    ghost name = { codes "matching type" };
+    ghost COMMENT = { codes "matching type" };
 
     ghost rows = { tlsa_matching_types };
 
@@ -41,13 +45,16 @@ impl Registry for TlsaMatchingTypes {
 
     ghost table = { refl };
 
-    const SHOW_NAME: &'static str = NAME;
+    const TYPE_NAME: &'static str = "TlsaMatchingType";
 
-    fn comment_name() -> &'static str {
-        NAME
-    }
+    const COMMENT: CommentName = CommentName("matching type");
 
     fn rows() -> &'static [(u8, &'static str)] {
+        // each constant has the number that its name stands for
+        prove!(TlsaMatchingType::FULL.0 == 0);
+        prove!(TlsaMatchingType::SHA2_256.0 == 1);
+        prove!(TlsaMatchingType::SHA2_512.0 == 2);
+        prove!(TlsaMatchingType::PRIVMATCH.0 == 255);
         &ROWS
     }
 }

@@ -1,14 +1,10 @@
 -- What a look-up in a table finds is found back.
-use Rattle.std.proofs.Common.{◌≡◌, ℕ, List, [], ◌∷◌, Bool, true, false, cond, Option, Some, None, refl, ap, ◌∙◌, subst, arith}
-use Rattle.std.specs.Prelude.{nat_lt, ◌==◌, ◌&&◌, is_none, option_map}
+use Rattle.std.proofs.Common.{◌≡◌, ℕ, List, [], ◌∷◌, true, false, cond, Option, Some, None, refl, ap, ◌∙◌, subst, arith}
+use Rattle.std.specs.Prelude.{nat_lt, ◌==◌, is_none, option_map}
+use Rattle.std.proofs.lemmas.Bool.{and_parts}
 use Rattle.std.proofs.lemmas.Bool.Decides.{nat_tests}
 use Rattle.std.specs.Cmp.Lexicographic.{pointwise, bytes_decides}
-use Rattle.registry.specs.Tables.{lower, is_same, mnemonic_of, number_of, is_one_line, is_table}
-
--- the parts of a test
-pub both : (a b : Bool) → (a && b) ≡ true → (a ≡ true) × (b ≡ true)
-both true b e = (refl, e)
-both false b e = cc
+use Rattle.registry.specs.Tables.{lower, is_same, mnemonic_of, number_of, is_one_line, is_table, MnemonicsRead, NumbersRead, MnemonicsOneLine}
 
 -- what the test says of a first row
 record FirstRow (bound : ℕ) (row : ℕ × List ℕ) (rows : List (ℕ × List ℕ)) : Type 0 where
@@ -19,10 +15,10 @@ record FirstRow (bound : ℕ) (row : ℕ × List ℕ) (rows : List (ℕ × List 
 
 first_row : (bound : ℕ) (row : ℕ × List ℕ) (rows : List (ℕ × List ℕ)) → is_table bound (row ∷ rows) ≡ true → FirstRow bound row rows
 first_row bound row rows e =
-    let p = both _ (is_table bound rows) e in
-    let q = both _ (is_one_line row.1) p.0 in
-    let r = both _ (is_none (number_of rows row.1)) q.0 in
-    let s = both (nat_lt row.0 bound) (is_none (mnemonic_of rows row.0)) r.0 in
+    let p = and_parts _ (is_table bound rows) e in
+    let q = and_parts _ (is_one_line row.1) p.0 in
+    let r = and_parts _ (is_none (number_of rows row.1)) q.0 in
+    let s = and_parts (nat_lt row.0 bound) (is_none (mnemonic_of rows row.0)) r.0 in
     record { one_line = q.1; new_number = s.1; new_name = r.1; others = p.1 }
 
 -- two texts are the same in lower case
@@ -45,7 +41,7 @@ taken None x e h = cc
 taken (Some y) x e h = cc
 
 -- a number's mnemonic is read as that number
-pub number_of-mnemonic_of : (bound : ℕ) (rows : List (ℕ × List ℕ)) → is_table bound rows ≡ true → (n : ℕ) (m : List ℕ) → mnemonic_of rows n ≡ Some m → number_of rows m ≡ Some n
+pub number_of-mnemonic_of : (bound : ℕ) (rows : List (ℕ × List ℕ)) → is_table bound rows ≡ true → MnemonicsRead rows
 number_of-mnemonic_of bound [] is n m e = cc
 number_of-mnemonic_of bound (row ∷ rows) is n m e =
     elim (row.0 == n) as (λ t. (row.0 == n) ≡ t → cond t (Some row.1) (mnemonic_of rows n) ≡ Some m → number_of (row ∷ rows) m ≡ Some n) [
@@ -64,7 +60,7 @@ number_of-mnemonic_of bound (row ∷ rows) is n m e =
     ] refl e
 
 -- the mnemonic of the number that a text is read as is that text, but for case
-pub mnemonic_of-number_of : (bound : ℕ) (rows : List (ℕ × List ℕ)) → is_table bound rows ≡ true → (m : List ℕ) (n : ℕ) → number_of rows m ≡ Some n → option_map lower (mnemonic_of rows n) ≡ Some (lower m)
+pub mnemonic_of-number_of : (bound : ℕ) (rows : List (ℕ × List ℕ)) → is_table bound rows ≡ true → NumbersRead rows
 mnemonic_of-number_of bound [] is m n e = cc
 mnemonic_of-number_of bound (row ∷ rows) is m n e =
     elim (is_same row.1 m) as (λ t. is_same row.1 m ≡ t → cond t (Some row.0) (number_of rows m) ≡ Some n → option_map lower (mnemonic_of (row ∷ rows) n) ≡ Some (lower m)) [
@@ -88,7 +84,7 @@ mnemonic_of-number_of bound (row ∷ rows) is m n e =
     mapped (Some y) x e h = cc
 
 -- a mnemonic has no line feed
-pub mnemonic_of-one_line : (bound : ℕ) (rows : List (ℕ × List ℕ)) → is_table bound rows ≡ true → (n : ℕ) (m : List ℕ) → mnemonic_of rows n ≡ Some m → is_one_line m ≡ true
+pub mnemonic_of-one_line : (bound : ℕ) (rows : List (ℕ × List ℕ)) → is_table bound rows ≡ true → MnemonicsOneLine rows
 mnemonic_of-one_line bound [] is n m e = cc
 mnemonic_of-one_line bound (row ∷ rows) is n m e =
     let first = first_row bound row rows is in

@@ -1,5 +1,5 @@
 -- A registry's table: numbers with their mnemonics.
-use Rattle.std.specs.Prelude.{ℕ, ◌==◌, List, [], ◌∷◌, Bool, true, ◌&&◌, not, Option, Some, None, map, nat_lt, is_none, if◌then◌else◌}
+use Rattle.std.specs.Prelude.{◌≡◌, ℕ, ◌==◌, List, [], ◌∷◌, Bool, true, ◌&&◌, not, Option, Some, None, map, option_map, nat_lt, is_none, if◌then◌else◌}
 use Rattle.std.specs.List.{list_any}
 use Rattle.std.specs.Char.{to_ascii_lowercase}
 use Rattle.std.specs.Cmp.Lexicographic.{pointwise}
@@ -31,3 +31,15 @@ abbrev pub is_table : ℕ → List (ℕ × List ℕ) → Bool
 is_table bound [] = true
 is_table bound (row ∷ rows) =
     nat_lt row.0 bound && is_none (mnemonic_of rows row.0) && is_none (number_of rows row.1) && is_one_line row.1 && is_table bound rows
+
+-- a mnemonic is read as its number
+abbrev pub MnemonicsRead : List (ℕ × List ℕ) → Type 0
+MnemonicsRead rows = (n : ℕ) (m : List ℕ) → mnemonic_of rows n ≡ Some m → number_of rows m ≡ Some n
+
+-- what is read as a number is its mnemonic, but for case
+abbrev pub NumbersRead : List (ℕ × List ℕ) → Type 0
+NumbersRead rows = (m : List ℕ) (n : ℕ) → number_of rows m ≡ Some n → option_map lower (mnemonic_of rows n) ≡ Some (lower m)
+
+-- no mnemonic has a line feed
+abbrev pub MnemonicsOneLine : List (ℕ × List ℕ) → Type 0
+MnemonicsOneLine rows = (n : ℕ) (m : List ℕ) → mnemonic_of rows n ≡ Some m → is_one_line m ≡ true

@@ -7,13 +7,13 @@ ghost use Rattle.registry.specs.declared.errors.BuildValueError.TheVariants as e
 use thiserror::Error;
 use wire_base::{NoMemory, ParseError};
 
-/// The value of a service parameter has more than 65,535 octets.
+/// The value of a service parameter has more than 65,535 octets (RFC 9460, section 2.2: its length has 16 bits).
 #[derive(Clone, Copy, Debug, PartialEq, Eq, Error)]
 #[error("service parameter too long")]
 pub struct LongSvcParam;
 
 impl LongSvcParam {
-    /// The most octets of a value (RFC 9460, section 2.2: its length has 16 bits).
+    /// The most octets of a value (RFC 9460, section 2.2).
     pub const MAX_LEN: usize = 65535;
 
     /// Tests the length of a value in octets. Refused exactly over 65,535.
@@ -44,21 +44,21 @@ impl From<LongSvcParam> for ParseError {
     }
 }
 
-/// A buffer has no room left.
+/// A buffer has no room left: what is added would go over its limit in octets.
 #[derive(Clone, Copy, Debug, PartialEq, Eq, Error)]
 #[error("short buffer")]
 pub struct ShortBuf;
 
-/// Why a value was not made of its items.
+/// Why a value of a service parameter was not made of its items.
 #[derive(Clone, Copy, Debug, PartialEq, Eq, Error)]
 pub enum BuildValueError {
-    /// The value would have more than 65,535 octets.
+    /// The value would have more than 65,535 octets (RFC 9460, section 2.2).
     #[error("long SVCB value")]
     LongSvcParam,
-    /// A buffer has no room left. No call of this library answers it.
+    /// A buffer has no room left. No call of this library answers it; it stands for builders of values in other crates.
     #[error("short buffer")]
     ShortBuf,
-    /// The value has no items, and its type wants at least one.
+    /// The value has no items, and its type wants at least one, as `tls-supported-groups`.
     #[error("empty SVCB value")]
     EmptyValue,
     /// The memory for the value isn't there.
@@ -66,6 +66,7 @@ pub enum BuildValueError {
     NoMemory,
 }
 
+/// The variant of that name.
 impl From<LongSvcParam> for BuildValueError {
     ghost from_gives = { λ _ error. error ≡ errors.LongSvcParam };
 
@@ -74,6 +75,7 @@ impl From<LongSvcParam> for BuildValueError {
     }
 }
 
+/// The variant of that name.
 impl From<ShortBuf> for BuildValueError {
     ghost from_gives = { λ _ error. error ≡ errors.ShortBuf };
 
@@ -82,6 +84,7 @@ impl From<ShortBuf> for BuildValueError {
     }
 }
 
+/// The variant of that name.
 impl From<NoMemory> for BuildValueError {
     ghost from_gives = { λ _ error. error ≡ errors.NoMemory };
 

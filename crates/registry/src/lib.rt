@@ -9,9 +9,6 @@ mod values;
 
 pub use errors::{BuildValueError, LongSvcParam, ShortBuf};
 pub use integer::Integer;
-pub use number::IanaNumber;
+pub use number::{CommentName, IanaNumber};
 pub use svc_param_key::{FromStrError, SvcParamKey};
 pub use values::{ComposeSvcParamValue, ParseSvcParamValue, SvcParamValue};
-
-#[cfg(test)]
-mod tests;

@@ -1,14 +1,34 @@
 //! The trait of a registry's numbers.
 
-ghost use Rattle.std.specs.Prelude.{◌≡◌, ◌+◌, ◌^◌, ◌≤◌, ◌<◌, ℕ, List, ◌++◌, Option, Some, None, true, map, option_map, nat_lt, IfOk, OnOk, OnErr, if◌then◌else◌};
-ghost use Rattle.registry.specs.Tables.{lower, is_same, mnemonic_of, number_of, is_one_line, is_table};
+ghost use Rattle.std.specs.Prelude.{◌≡◌, ◌^◌, ◌<◌, ℕ, List, Option, Some, None, true, map, option_map, nat_lt, IfOk, OnErr, if◌then◌else◌};
+ghost use Rattle.wire_base.specs.Moving.{TakesOctets, AppendsOctets};
+ghost use Rattle.registry.specs.Tables.{is_same, mnemonic_of, number_of, is_one_line, is_table, MnemonicsRead, NumbersRead, MnemonicsOneLine};
 ghost use Rattle.registry.specs.TableLaws.{number_of-mnemonic_of, mnemonic_of-number_of, mnemonic_of-one_line};
 
 use crate::integer::Integer;
 use std::fmt::Display;
+use std::marker::Model;
 use wire_base::{NoMemory, ParseError, Parser};
 
-/// A number of a registry.
+/// What a comment calls the numbers of a registry. Contracts see the octets of the text, so they can name such a
+/// constant, which they can't of a `&str`.
+#[derive(Debug, Drop)]
+pub struct CommentName(pub &'static str);
+
+impl Model for CommentName {
+    ghost Value = { List ℕ };
+
+    ghost view = { λ name. name.0.now };
+}
+
+/// A number of a registry: its integer, its mnemonic, its text, and its octets in a message.
+///
+/// A type of another crate is such a number too. It names its integer, gives `COMPOSE_LEN` and `COMMENT`, writes
+/// `rows`, `from_int`, `to_int` and `from_bytes`, and says by the ghost members what they mean: `number` is the number
+/// of a value, `rows` the table of numbers and mnemonics, `reads` and `prints` its text in both directions. It then
+/// proves the laws at the end. Where the table and the comment's name are written out, `table` and `one_line` are
+/// `refl`, since the check computes them. All other calls come with the trait, and so do the three laws that have a
+/// proof here.
 pub trait IanaNumber: Copy + Display {
     /// The integer of the number.
     type Int: Integer;
@@ -17,9 +37,9 @@ pub trait IanaNumber: Copy + Display {
     ghost COMPOSE_LEN: { ℕ };
 
     /// What a comment calls the number.
-    ghost name: { List ℕ };
+    ghost COMMENT: { List ℕ };
 
-    /// The number.
+    /// The number of a value.
     ghost number: { Self → ℕ };
 
     /// The numbers that have a mnemonic, with it.
@@ -34,18 +54,24 @@ pub trait IanaNumber: Copy + Display {
     /// The count of octets in a message.
     const COMPOSE_LEN: u16;
 
-    /// What a comment calls the number.
-    const SHOW_NAME: &'static str;
+    /// What a comment calls the number; empty where comments don't name it.
+    const COMMENT: CommentName;
 
-    /// What a comment calls the number: the text of `SHOW_NAME`, with a contract.
+    /// The text of `COMMENT`.
+    const SHOW_NAME: &'static str = Self::COMMENT.0;
+
+    /// The text of `COMMENT`.
     fn comment_name() -> &'static str
-        ensures { result.now ≡ name };
+        ensures { result.now ≡ COMMENT }
+    {
+        Self::COMMENT.0
+    }
 
     /// The registry's numbers that have a mnemonic, with it.
     fn rows() -> &'static [(Self::Int, &'static str)]
         ensures { map (λ row. (Self.Int.value row.0, row.1.now)) result.now ≡ rows };
 
-    /// The number of an integer.
+    /// The value of an integer.
     fn from_int(value: Self::Int) -> Self
         ensures { number result ≡ Self.Int.value value };
 
@@ -53,72 +79,62 @@ pub trait IanaNumber: Copy + Display {
     fn to_int(self) -> Self::Int
         ensures { Self.Int.value result ≡ number self };
 
-    /// The number that a text spells, as `Display` prints it and in further forms. None exactly for other texts.
+    /// The value that a text spells, as `Display` prints it and in further forms. None exactly for other texts.
     fn from_bytes(bytes: &[u8]) -> Option<Self>
         ensures { option_map number result ≡ reads bytes.now };
 
-    /// The number as 16 bits.
+    /// The number.
     fn to_u16(self) -> u16
         ensures number { result ≡ number self }
-        ensures small { result < 256 ^ Self.Int.LEN }
+        ensures in_range { result < 256 ^ Self.Int.LEN }
     {
         self.to_int().to_u16()
     }
 
-    /// The number of 16 bits. None exactly where it is too large for the integer.
+    /// The value of a number. None exactly where the number is too large for the integer.
     fn from_u16(value: u16) -> Option<Self>
-        ensures { option_map number result ≡ (if nat_lt value (256 ^ Self.Int.LEN) then Some value else None) }
+        ensures { option_map number result
+            ≡ (if nat_lt value (256 ^ Self.Int.LEN) then Some value else None) }
     {
-        match Self::Int::from_u16(value) {
-            Some(value) => Some(Self::from_int(value)),
-            None => None,
-        }
+        Some(Self::from_int(Self::Int::from_u16(value)?))
     }
 
-    /// The number whose mnemonic the octets are, ASCII case ignored.
+    /// The value whose mnemonic the octets are, ASCII case ignored. None exactly where the table has no such mnemonic.
     fn from_mnemonic(m: &[u8]) -> Option<Self>
         ensures { option_map number result ≡ number_of rows m.now }
     {
-        match find_number(Self::rows(), m) {
-            Some(value) => Some(Self::from_int(value)),
-            None => None,
-        }
+        Some(Self::from_int(find_number(Self::rows(), m)?))
     }
 
-    /// The mnemonic of the number, as octets.
+    /// The mnemonic of the number, as octets. None exactly where the table has no such number.
     fn to_mnemonic(self) -> Option<&'static [u8]>
         ensures { option_map (λ m. m.now) result ≡ mnemonic_of rows (number self) }
     {
-        match self.to_mnemonic_str() {
-            Some(mnemonic) => Some(mnemonic.as_bytes()),
-            None => None,
-        }
+        self.to_mnemonic_str().map(str::as_bytes)
     }
 
-    /// The mnemonic of the number.
+    /// The mnemonic of the number. None exactly where the table has no such number.
     fn to_mnemonic_str(self) -> Option<&'static str>
         ensures { option_map (λ m. m.now) result ≡ mnemonic_of rows (number self) }
     {
         find_mnemonic(Self::rows(), self.to_u16())
     }
 
-    /// The number in the next octets. Refused exactly where fewer remain; the parser then stays.
+    /// The value of the number in the next octets. Refused as `ShortInput` exactly where fewer remain; the parser then
+    /// stays.
     fn parse(parser: &mut Parser<'_>) -> Result<Self, ParseError>
-        ensures number { IfOk result (λ x. number x ≡ Self.Int.number_at parser.old.message parser.old.pos) }
-        ensures ok { OnOk result (parser.new ≡ record parser.old { pos = parser.old.pos + Self.Int.LEN }) }
-        ensures within { OnOk result (parser.old.pos + Self.Int.LEN ≤ parser.old.end) }
-        ensures short { OnErr result (parser.old.end < parser.old.pos + Self.Int.LEN) }
+        ensures number { IfOk result (λ x. number x
+            ≡ Self.Int.number_at parser.old.message parser.old.pos) }
+        ensures takes { TakesOctets parser.old parser.new Self.Int.LEN result }
         ensures fault { OnErr result (result ≡ Err ParseError.ShortInput) }
-        ensures err { OnErr result (parser.new ≡ parser.old) }
     {
-        let value = Self::Int::parse(parser)?;
-        Ok(Self::from_int(value))
+        Ok(Self::from_int(Self::Int::parse(parser)?))
     }
 
-    /// Appends the number's octets. Refused only for memory; the target then stays.
+    /// Appends the number's octets. Refused for want of memory alone; the target then stays.
     fn compose(&self, target: &mut Vec<u8>) -> Result<(), NoMemory>
-        ensures ok { OnOk result (target.new.items ≡ target.old.items ++ Self.Int.octets (number self.now)) }
-        ensures err { OnErr result (target.new.items ≡ target.old.items) }
+        ensures { AppendsOctets target.old.items target.new.items
+            (Self.Int.octets (number self.now)) result }
     {
         self.to_int().compose(target)
     }
@@ -130,19 +146,19 @@ pub trait IanaNumber: Copy + Display {
     ghost len: { COMPOSE_LEN ≡ Self.Int.LEN };
 
     /// What a comment calls the number has no line feed.
-    ghost one_line: { is_one_line name ≡ true };
+    ghost one_line: { is_one_line COMMENT ≡ true };
 
     /// The numbers fit and are distinct; the mnemonics are distinct in any case and have no line feed.
     ghost table: { is_table (256 ^ Self.Int.LEN) rows ≡ true };
 
     /// A mnemonic is read as its number.
-    ghost mnemonics_read: { (n : ℕ) (m : List ℕ) → mnemonic_of rows n ≡ Some m → number_of rows m ≡ Some n } = { number_of-mnemonic_of (256 ^ Self.Int.LEN) rows table };
+    ghost mnemonics_read: { MnemonicsRead rows } = { number_of-mnemonic_of _ rows table };
 
     /// What is read as a number is its mnemonic, but for case.
-    ghost numbers_read: { (m : List ℕ) (n : ℕ) → number_of rows m ≡ Some n → option_map lower (mnemonic_of rows n) ≡ Some (lower m) } = { mnemonic_of-number_of (256 ^ Self.Int.LEN) rows table };
+    ghost numbers_read: { NumbersRead rows } = { mnemonic_of-number_of _ rows table };
 
     /// A mnemonic has no line feed.
-    ghost mnemonics_one_line: { (n : ℕ) (m : List ℕ) → mnemonic_of rows n ≡ Some m → is_one_line m ≡ true } = { mnemonic_of-one_line (256 ^ Self.Int.LEN) rows table };
+    ghost mnemonics_one_line: { MnemonicsOneLine rows } = { mnemonic_of-one_line _ rows table };
 
     /// `Display` prints the text of the number.
     ghost displays: { (x : Self) → Self.output x ≡ Some (prints (number x)) };
@@ -164,7 +180,8 @@ pub(crate) fn find_mnemonic<N: Integer>(
     table: &[(N, &'static str)],
     number: u16,
 ) -> Option<&'static str>
-    ensures { option_map (λ m. m.now) result ≡ mnemonic_of (map (λ row. (N.value row.0, row.1.now)) table.now) number }
+    ensures { option_map (λ m. m.now) result
+        ≡ mnemonic_of (map (λ row. (N.value row.0, row.1.now)) table.now) number }
 {
     for row in table {
         if row.0.to_u16() == number {
@@ -176,7 +193,8 @@ pub(crate) fn find_mnemonic<N: Integer>(
 
 /// The number in a table whose mnemonic the octets are, ASCII case ignored.
 fn find_number<N: Integer>(table: &[(N, &'static str)], m: &[u8]) -> Option<N>
-    ensures { option_map N.value result ≡ number_of (map (λ row. (N.value row.0, row.1.now)) table.now) m.now }
+    ensures { option_map N.value result
+        ≡ number_of (map (λ row. (N.value row.0, row.1.now)) table.now) m.now }
 {
     for row in table {
         if is_same(row.1.as_bytes(), m) {

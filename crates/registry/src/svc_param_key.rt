@@ -2,12 +2,12 @@
 
 ghost use Rattle.std.specs.Prelude.{◌≡◌, ◌^◌, ◌<◌, [], ◌∷◌, Some, refl};
 ghost use Rattle.std.specs.Result.{result_ok};
-ghost use Rattle.registry.specs.Texts.{generic_key, key_text, key_shown};
+ghost use Rattle.registry.specs.Texts.{generic_key, spelled_key, printed_key};
 ghost use Rattle.registry.specs.Keys.{parameter_keys};
-ghost use Rattle.registry.specs.KeyLaws.{key_text-key_shown};
+ghost use Rattle.registry.specs.KeyLaws.{spelled_key-printed_key};
 
 use crate::integer::Integer;
-use crate::number::{IanaNumber, find_mnemonic, is_same};
+use crate::number::{CommentName, IanaNumber, find_mnemonic, is_same};
 use std::fmt;
 use std::marker::Model;
 use std::str::FromStr;
@@ -17,7 +17,7 @@ use thiserror::Error;
 #[derive(Clone, Copy, Debug, PartialEq, Eq, PartialOrd, Ord, Hash)]
 pub struct SvcParamKey(u16);
 
-/// A text is no key of a service parameter.
+/// A text is no key of a service parameter: neither a mnemonic nor `key` and a number up to 65,535.
 #[derive(Clone, Copy, Debug, PartialEq, Eq, Error)]
 #[error("unknown key")]
 pub struct FromStrError;
@@ -34,65 +34,68 @@ impl Model for SvcParamKey {
     ghost inverse = { λ number. record { 0 = number } };
 }
 
-/// The keys that have a name (RFC 9460, section 14.3.2, and the registry after it), and the range for private use.
+/// The keys that have a name (RFC 9460, section 14.3.2, and IANA's registry of Service Parameter Keys after it), and
+/// the range for private use.
 impl SvcParamKey {
+    /// The keys that a client must know to use the record (RFC 9460, section 8).
     pub const MANDATORY: SvcParamKey = SvcParamKey(0);
 
+    /// The protocols of the service beside the default (RFC 9460, section 7.1).
     pub const ALPN: SvcParamKey = SvcParamKey(1);
 
+    /// The default protocol isn't spoken (RFC 9460, section 7.1).
     pub const NO_DEFAULT_ALPN: SvcParamKey = SvcParamKey(2);
 
+    /// The port of the service (RFC 9460, section 7.2).
     pub const PORT: SvcParamKey = SvcParamKey(3);
 
+    /// IPv4 addresses of the service (RFC 9460, section 7.3).
     pub const IPV4HINT: SvcParamKey = SvcParamKey(4);
 
+    /// Configurations of Encrypted ClientHello (RFC 9460, section 14.3.2).
     pub const ECH: SvcParamKey = SvcParamKey(5);
 
+    /// IPv6 addresses of the service (RFC 9460, section 7.3).
     pub const IPV6HINT: SvcParamKey = SvcParamKey(6);
 
+    /// The path of DNS over HTTPS (RFC 9461, section 5).
     pub const DOHPATH: SvcParamKey = SvcParamKey(7);
 
+    /// The service is reached by Oblivious HTTP (RFC 9540, section 4).
     pub const OHTTP: SvcParamKey = SvcParamKey(8);
 
+    /// The groups for key exchange in TLS (IANA's registry).
     pub const TLS_SUPPORTED_GROUPS: SvcParamKey = SvcParamKey(9);
 
+    /// The path of DNS over CoAP (IANA's registry).
     pub const DOCPATH: SvcParamKey = SvcParamKey(10);
 
+    /// The service tells of its provisioning domain (IANA's registry).
     pub const PVD: SvcParamKey = SvcParamKey(11);
 
+    /// The key `oots` of IANA's registry.
     pub const OOTS: SvcParamKey = SvcParamKey(12);
 
-    /// The first number for private use.
+    /// The first number for private use (RFC 9460, section 14.3.2).
     pub const PRIVATE_RANGE_BEGIN: u16 = 65280;
 
-    /// The last number for private use.
+    /// The last number for private use (RFC 9460, section 14.3.2).
     pub const PRIVATE_RANGE_END: u16 = 65534;
 
-    /// The key that is reserved as invalid. It has no mnemonic.
+    /// The key that is reserved as invalid (RFC 9460, section 14.3.2). It has no mnemonic.
     pub const INVALID: SvcParamKey = SvcParamKey(65535);
 
     // The key that is written as `key` and its number.
     fn from_generic(text: &[u8]) -> Option<SvcParamKey>
         ensures { result ≡ generic_key text.now }
     {
-        if text.len() < 3 || !is_same(&text[..3], b"key") {
+        let (front, number) = text.split_at_checked(3)?;
+        if !is_same(front, b"key") {
             return None;
         }
-        match u16::from_text(&text[3..]) {
-            Some(number) => Some(SvcParamKey(number)),
-            None => None,
-        }
+        u16::from_text(number).map(SvcParamKey::from)
     }
 }
-
-const _: () = prove!(SvcParamKey::PRIVATE_RANGE_BEGIN == 65280);
-
-const _: () = prove!(SvcParamKey::PRIVATE_RANGE_END == 65534);
-
-const _: () = prove!(SvcParamKey::INVALID.0 == 65535);
-
-// Comments name no keys.
-const NAME: &str = "";
 
 const ROWS: [(u16, &str); 13] = [
     (SvcParamKey::MANDATORY.0, "mandatory"),
@@ -115,19 +118,20 @@ impl IanaNumber for SvcParamKey {
 
     const COMPOSE_LEN: u16 = 2;
 
-    const SHOW_NAME: &'static str = NAME;
+    // comments name no keys
+    const COMMENT: CommentName = CommentName("");
 
     ghost COMPOSE_LEN = { 2 };
 
-    ghost name = { [] };
+    ghost COMMENT = { [] };
 
     ghost number = { λ key. key };
 
     ghost rows = { parameter_keys };
 
-    ghost reads = { key_text parameter_keys };
+    ghost reads = { spelled_key parameter_keys };
 
-    ghost prints = { key_shown parameter_keys };
+    ghost prints = { printed_key parameter_keys };
 
     ghost same = { λ x y equal. equal };
 
@@ -139,13 +143,26 @@ impl IanaNumber for SvcParamKey {
 
     ghost displays = { λ x. refl };
 
-    ghost reads_back = { key_text-key_shown parameter_keys refl };
-
-    fn comment_name() -> &'static str {
-        NAME
-    }
+    ghost reads_back = { spelled_key-printed_key parameter_keys refl };
 
     fn rows() -> &'static [(u16, &'static str)] {
+        // each constant has the number that its name stands for
+        prove!(SvcParamKey::MANDATORY.0 == 0);
+        prove!(SvcParamKey::ALPN.0 == 1);
+        prove!(SvcParamKey::NO_DEFAULT_ALPN.0 == 2);
+        prove!(SvcParamKey::PORT.0 == 3);
+        prove!(SvcParamKey::IPV4HINT.0 == 4);
+        prove!(SvcParamKey::ECH.0 == 5);
+        prove!(SvcParamKey::IPV6HINT.0 == 6);
+        prove!(SvcParamKey::DOHPATH.0 == 7);
+        prove!(SvcParamKey::OHTTP.0 == 8);
+        prove!(SvcParamKey::TLS_SUPPORTED_GROUPS.0 == 9);
+        prove!(SvcParamKey::DOCPATH.0 == 10);
+        prove!(SvcParamKey::PVD.0 == 11);
+        prove!(SvcParamKey::OOTS.0 == 12);
+        prove!(SvcParamKey::PRIVATE_RANGE_BEGIN == 65280);
+        prove!(SvcParamKey::PRIVATE_RANGE_END == 65534);
+        prove!(SvcParamKey::INVALID.0 == 65535);
         &ROWS
     }
 
@@ -158,16 +175,13 @@ impl IanaNumber for SvcParamKey {
     }
 
     fn from_bytes(bytes: &[u8]) -> Option<SvcParamKey> {
-        match SvcParamKey::from_mnemonic(bytes) {
-            Some(key) => Some(key),
-            None => SvcParamKey::from_generic(bytes),
-        }
+        SvcParamKey::from_mnemonic(bytes).or_else(|| SvcParamKey::from_generic(bytes))
     }
 }
 
-/// The mnemonic, else `key` and the number.
+/// The mnemonic, else `key` and the number (RFC 9460, section 2.1).
 impl fmt::Display for SvcParamKey {
-    ghost output = { λ key. Some (key_shown parameter_keys key) };
+    ghost output = { λ key. Some (printed_key parameter_keys key) };
 
     fn fmt<W: fmt::Write>(&self, f: &mut fmt::Formatter<W>) -> fmt::Result {
         let number = self.0;
@@ -178,11 +192,12 @@ impl fmt::Display for SvcParamKey {
     }
 }
 
-/// A mnemonic in any case, else `key` in any case and a number text.
+/// A mnemonic in any case, else `key` in any case and a number text of at most 65,535: as `from_bytes`. Refused exactly
+/// for other texts.
 impl FromStr for SvcParamKey {
     type Err = FromStrError;
 
-    ghost from_str_gives = { λ text result. result_ok result ≡ key_text parameter_keys text };
+    ghost from_str_gives = { λ text result. result_ok result ≡ spelled_key parameter_keys text };
 
     fn from_str(text: &str) -> Result<SvcParamKey, FromStrError> {
         SvcParamKey::from_bytes(text.as_bytes()).ok_or(FromStrError)

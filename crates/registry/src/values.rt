@@ -1,20 +1,25 @@
 //! What a value of a service parameter is, how it is read, and how it is composed.
 //!
-//! A type of another crate is a value too. It implements the traits and says by their ghost members what it means:
-//! `key_of` its key, `takes` the keys that it is read under, `Seen` and `seen` what contracts see of it, `reads` what
-//! octets are as such a value or which fault they have, and `octets` what it is composed to. Its functions are proved to
-//! answer so, and code that is generic over the traits then reads and composes it as any value of this library.
+//! A type of another crate is a value too. It implements the three traits, or those of them that it needs, and says by
+//! their ghost members what it means: `key_of` its key, `takes` the keys that it is read under, `Seen` and `seen` what
+//! contracts see of it, `reads` what octets are as such a value or which fault they have, and `octets` what it is
+//! composed to. Its functions are proved to answer so, and code that is generic over the traits then reads and composes
+//! it as any value of this library.
+//!
+//! Nothing asks that `reads` and `octets` belong together. That the octets of a value are read as that value is for the
+//! type's own crate to prove.
 
 ghost use Rattle.std.specs.Prelude.{◌≡◌, ℕ, ◌+◌, ◌≤◌, Bool, List, ◌++◌, length, Result, OnOk, OnErr};
-ghost use Rattle.wire_spec.specs.Octets.{Fault};
-ghost use Rattle.wire_spec.specs.ReadingValues.{Taken};
+ghost use Rattle.name_spec.specs.Octets.{Fault};
+ghost use Rattle.name_spec.specs.Taking.{Taken};
 ghost use Rattle.wire_base.specs.Input.{left};
-ghost use Rattle.registry.specs.Reading.{Answers, octets_taken, behind};
+ghost use Rattle.wire_base.specs.Moving.{AppendsOctets};
+ghost use Rattle.registry.specs.Reading.{ValueAnswers, octets_taken, behind};
 
 use crate::svc_param_key::SvcParamKey;
 use wire_base::{NoMemory, ParseError, Parser};
 
-/// A value of a service parameter.
+/// A value of a service parameter (RFC 9460, section 2).
 pub trait SvcParamValue {
     /// The value's key.
     ghost key_of: { Self → ℕ };
@@ -27,7 +32,8 @@ pub trait SvcParamValue {
 /// A value that is read from the octets of a parameter, and may borrow them.
 ///
 /// A type says by `takes` which keys it takes, and by `reads` which value the octets of such a key begin with and how
-/// many octets that value has, or which fault they have. `seen` shows a value as contracts see it.
+/// many octets that value has, or which fault they have. `seen` shows a value as contracts see it. A value can be let
+/// go, since a reader that finds octets left behind a value answers a fault in its place.
 pub trait ParseSvcParamValue<'a>: SvcParamValue + Sized + Drop {
     /// What contracts see of a value.
     ghost Seen: { Type 0 };
@@ -41,12 +47,16 @@ pub trait ParseSvcParamValue<'a>: SvcParamValue + Sized + Drop {
     /// What octets under a key begin with, or their fault.
     ghost reads: { ℕ → List ℕ → Result (Taken Seen) Fault };
 
-    /// The value of a key that the parser's octets begin with; the parser then stands behind it. None exactly where the
-    /// type does not take the key. Refused by the first fault of the octets. The parser stays where there is no value.
+    /// The value that the octets before the parser begin with, under a key; the parser then stands behind it.
+    /// `Ok(None)` exactly where the type does not take the key. Refused as `ShortInput` or `Form` by the fault of the
+    /// octets, and never for want of memory. The parser stays where there is no value.
+    ///
+    /// No clause says that the parser is still within its data: a parser always is, by its own invariant, which
+    /// `Parser::pos` and `Parser::peek_all` tell.
     fn parse_value(key: SvcParamKey, parser: &mut Parser<'a>) -> Result<Option<Self>, ParseError>
-        ensures answer { Answers seen result (takes key) (reads key (left parser.old)) }
-        ensures moved { parser.new ≡ behind parser.old (octets_taken (takes key) (reads key (left parser.old))) }
-        ensures within { parser.new.pos ≤ parser.new.end };
+        ensures answer { ValueAnswers seen result (takes key) (reads key (left parser.old)) }
+        ensures moved { parser.new
+            ≡ behind parser.old (octets_taken (takes key) (reads key (left parser.old))) };
 }
 
 /// A value that is composed.
@@ -60,6 +70,6 @@ pub trait ComposeSvcParamValue: SvcParamValue {
 
     /// Appends the value's octets. Refused for want of memory alone; the target then stays.
     fn compose_value(&self, target: &mut Vec<u8>) -> Result<(), NoMemory>
-        ensures ok { OnOk result (target.new.items ≡ target.old.items ++ octets self.now) }
-        ensures err { OnErr result (target.new.items ≡ target.old.items) };
+        ensures appends { AppendsOctets target.old.items target.new.items
+            (octets self.now) result };
 }
