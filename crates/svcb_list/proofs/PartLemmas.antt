@@ -2,9 +2,9 @@
 use Rattle.std.proofs.Common.{Fits, w8, ◌≡◌, ℕ, ◌%◌, ◌<◌, ◌≤◌, true, List, ◌∷◌, length, take, drop, ap, ◌∙◌, arith, length-drop}
 use Rattle.std.specs.Prelude.{◌==◌, slice_index_or}
 use Rattle.std.proofs.lemmas.Bool.Decides.{nat_tests}
-use Rattle.wire_spec.specs.ReadingValues.{parts, numbers}
-use Rattle.wire_spec.specs.Values.{numbers_wire}
-use Rattle.wire_spec.proofs.ItemLaws.{whole_parts, parts-first, are_octets, numbers_wire-numbers, concat-parts}
+use Rattle.svcb_spec.specs.ReadingValues.{parts, numbers}
+use Rattle.svcb_spec.specs.Values.{numbers_wire}
+use Rattle.svcb_spec.proofs.ItemLaws.{whole_parts, parts-first, are_octets, numbers_wire-numbers, concat-parts}
 use Rattle.std.specs.List.{concat}
 
 -- what the test says
@@ -25,6 +25,9 @@ parts_left len octets some full whole =
 
 pub first_part : (len : ℕ) (octets : List ℕ) → 0 < len → 0 < length octets → parts len octets ≡ take len octets ∷ parts len (drop len octets)
 first_part = parts-first
+
+-- a part that the octets begin with, and the parts behind it
+pub ruleset first_rules = (part_fits, first_part, parts_left)
 
 -- the octets of a slice, which are its numbers' octets
 pub numbers_encoded : (octets : List ℕ) → ((i : ℕ) → Fits w8 (slice_index_or octets i 0)) → (length octets % 2 == 0) ≡ true → numbers_wire (numbers octets) ≡ octets

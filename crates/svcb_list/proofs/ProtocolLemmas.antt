@@ -1,9 +1,9 @@
 -- Protocols, each behind its length.
 use Rattle.std.proofs.Common.{Fits, w8, ◌≡◌, ℕ, ◌<◌, ◌≤◌, true, false, List, [], ◌∷◌, length, take, drop, refl, sym, ◌∙◌, arith}
 use Rattle.std.specs.Prelude.{slice_index, slice_index_or}
-use Rattle.wire_spec.specs.ReadingValues.{protocols, are_whole}
-use Rattle.wire_spec.specs.Values.{protocols_wire}
-use Rattle.wire_spec.proofs.ItemLaws.{are_octets, protocols_wire-protocols, protocols-first, are_whole-first, are_whole-cut, are_whole-fits}
+use Rattle.svcb_spec.specs.ReadingValues.{protocols, are_whole}
+use Rattle.svcb_spec.specs.Values.{protocols_wire}
+use Rattle.svcb_spec.proofs.ItemLaws.{are_octets, protocols_wire-protocols, protocols-first, are_whole-first, are_whole-cut, are_whole-fits}
 
 -- the octets of a slice, which are its protocols' octets
 pub protocols_encoded : (octets : List ℕ) → ((i : ℕ) → Fits w8 (slice_index_or octets i 0)) → are_whole octets ≡ true → protocols_wire (protocols octets) ≡ octets
@@ -29,3 +29,8 @@ protocols_left = are_whole-first
 
 pub protocols_cut : (octets others : List ℕ) (len : ℕ) → octets ≡ len ∷ others → length others < len → are_whole octets ≡ false
 protocols_cut = are_whole-cut
+
+-- a protocol that the octets begin with, and the protocols behind it
+pub ruleset first_rules = (protocol_fits, first_protocol, others_whole)
+
+pub ruleset whole_rules = (protocols_left, protocols_cut)

@@ -1,3 +1,4 @@
 pub mod Building
 pub mod Pushing
 pub mod Reading
+pub mod Holding

@@ -1,14 +1,14 @@
 -- What a push onto a list of protocols answers.
-use Rattle.std.specs.Prelude.{◌≡◌, ℕ, ◌+◌, ◌<◌, ◌≤◌, true, List, Result, Ok, Err}
-use Rattle.wire_spec.specs.Values.{protocols_wire}
-use Rattle.wire_spec.specs.ReadingValues.{protocols, are_whole}
+use Rattle.std.specs.Prelude.{◌≡◌, ℕ, ◌+◌, ◌<◌, ◌≤◌, true, List, length, Result, Ok, Err}
+use Rattle.svcb_spec.specs.Values.{protocols_wire}
+use Rattle.svcb_spec.specs.ReadingValues.{protocols, are_whole}
 use Rattle.svcb_list.specs.declared.errors.BuildAlpnError.{BuildAlpnError}
 use Rattle.svcb_list.specs.declared.errors.BuildAlpnError.TheVariants.{InvalidProtocol, LongSvcParam, ShortBuf, NoMemory}
 
 -- a protocol has 1 to 255 octets (RFC 7301, section 3.1)
 pub record IsProtocol (len : ℕ) : Type 0 where
-  pub some : 0 < len
-  pub few : len ≤ 255
+  pub not_empty : 0 < len
+  pub fits : len ≤ 255
 
 -- A push of a protocol of `len` octets onto a value of `old` octets: done where the protocol is one and the value stays
 -- within 65,535 octets, unless memory is wanting. There is no other error.
@@ -19,7 +19,8 @@ IsPushed (Err LongSvcParam) old len = IsProtocol len × (65535 < old + 1 + len)
 IsPushed (Err NoMemory) old len = IsProtocol len × (old + 1 + len ≤ 65535)
 IsPushed (Err ShortBuf) old len = ⊥
 
--- octets are whole protocols, each behind its length
+-- octets are whole protocols, each behind its length, and at most 65,535
 pub record AreProtocols (octets : List ℕ) : Type 0 where
   pub encodes : protocols_wire (protocols octets) ≡ octets
   pub whole : are_whole octets ≡ true
+  pub fits : length octets < 65536

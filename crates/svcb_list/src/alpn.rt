@@ -1,8 +1,9 @@
 //! The protocols that a server speaks (RFC 9460, section 7.1).
 
 ghost use Rattle.std.specs.Prelude.{◌≡◌, ◌<◌, ◌∷◌, true, ℕ, List, length, refl, OnOk, OnErr, IfOk};
-ghost use Rattle.wire_spec.specs.Values as values;
-ghost use Rattle.wire_spec.specs.ReadingValues.{protocols, protocols_fault, are_whole};
+ghost use Rattle.svcb_spec.specs.Values as values;
+ghost use Rattle.svcb_list.specs.Holding.{protocols_hold};
+ghost use Rattle.svcb_spec.specs.ReadingValues.{protocols, protocols_fault, are_whole};
 
 use crate::item_iter::ItemIter;
 use crate::item_list::{ItemList, ItemListRef};
@@ -11,6 +12,7 @@ use registry::{LongSvcParam, SvcParamKey};
 use wire_base::ParseError;
 
 /// The type of `alpn`, whose items are names of protocols of at most 255 octets, each behind its length.
+#[derive(Debug)]
 pub struct AlpnType;
 
 /// The names of the protocols that a server speaks. A value that is read may hold empty names.
@@ -33,6 +35,10 @@ impl ListType for AlpnType {
 
     ghost has_key = { λ octets. refl };
 
+    ghost has_items = { λ octets small holds. protocols_hold octets small holds.whole };
+
+    const NAME: &'static str = "Alpn";
+
     fn key() -> SvcParamKey {
         SvcParamKey::ALPN
     }
@@ -48,7 +54,7 @@ impl ListType for AlpnType {
 }
 
 // Whether octets are whole protocols, the last of which ends where the octets end.
-#[tactic(auto, using(crate::proofs::ProtocolLemmas::protocols_left, crate::proofs::ProtocolLemmas::protocols_cut))]
+#[tactic(auto, using(crate::proofs::ProtocolLemmas::whole_rules))]
 fn are_protocols(octets: &[u8]) -> bool
     ensures { result ≡ are_whole octets.now }
 {
@@ -79,14 +85,8 @@ impl<'a> ListItems<'a> for AlpnType {
 
     ghost lists = { λ octets. refl };
 
-    #[tactic(auto, using(crate::proofs::ProtocolLemmas::protocol_fits, crate::proofs::ProtocolLemmas::others_whole, crate::proofs::ProtocolLemmas::first_protocol))]
-    fn split(octets: &'a [u8]) -> (&'a [u8], &'a [u8])
-        requires some { 0 < length octets.now }
-        requires whole { are_whole octets.now ≡ true }
-        ensures items { protocols octets.now ≡ result.0.now ∷ protocols result.1.now }
-        ensures whole { are_whole result.1.now ≡ true }
-        ensures shorter { length result.1.now < length octets.now }
-    {
+    #[tactic(auto, using(crate::proofs::ProtocolLemmas::first_rules))]
+    fn split(octets: &'a [u8]) -> (&'a [u8], &'a [u8]) {
         let len = usize::from(octets[0]);
         let (_, others) = octets.split_at(1);
         others.split_at(len)

@@ -1,9 +1,9 @@
 //! Building a list of protocols.
 
 ghost use Rattle.std.specs.Prelude.{◌≡◌, ◌+◌, ◌<◌, ◌≤◌, [], ◌∷◌, ◌++◌, length, IfOk, OnOk, OnErr};
-ghost use Rattle.wire_spec.specs.Values as values;
-ghost use Rattle.wire_spec.specs.Values.{protocols_wire};
-ghost use Rattle.wire_spec.specs.ReadingValues.{protocols};
+ghost use Rattle.svcb_spec.specs.Values as values;
+ghost use Rattle.svcb_spec.specs.Values.{protocols_wire};
+ghost use Rattle.svcb_spec.specs.ReadingValues.{protocols};
 ghost use Rattle.svcb_list.specs.Pushing.{AreProtocols, IsPushed};
 
 use crate::alpn::Alpn;
@@ -15,21 +15,21 @@ use std::marker::Model;
 use wire_base::{NoMemory, Octets};
 
 /// A list of protocols to which more are added. Contracts see the protocols.
-#[derive(Drop)]
+#[derive(Debug, Drop)]
 pub struct AlpnBuilder {
     octets: Vec<u8>,
 }
 
 impl Model for AlpnBuilder {
-    ghost use Rattle.std.specs.Prelude.{◌<◌, List, ℕ, length};
-    ghost use Rattle.wire_spec.specs.ReadingValues.{protocols};
+    ghost use Rattle.std.specs.Prelude.{List, ℕ};
+    ghost use Rattle.svcb_spec.specs.ReadingValues.{protocols};
     ghost use Rattle.svcb_list.specs.Pushing.{AreProtocols};
 
     ghost Value = { List (List ℕ) };
 
     ghost view = { λ builder. protocols builder.octets.items };
 
-    ghost invariant = { λ builder. record { are : AreProtocols builder.octets.items; few : length builder.octets.items < 65536 } };
+    ghost invariant = { λ builder. AreProtocols builder.octets.items };
 }
 
 impl AlpnBuilder {
@@ -42,8 +42,9 @@ impl AlpnBuilder {
         }
     }
 
-    /// Adds a protocol behind the others. `InvalidProtocol` exactly for no octets or more than 255; then `LongSvcParam`
-    /// exactly where the value would have more than 65,535 octets. A refused push leaves the builder as it was.
+    /// Adds a protocol behind the others. Refused as `InvalidProtocol` exactly for no octets or more than 255 (RFC 7301,
+    /// section 3.1); then as `LongSvcParam` exactly where the value would have more than 65,535 octets; else for want of
+    /// memory alone. A refused push leaves the builder as it was.
     pub fn push(&mut self, protocol: &[u8]) -> Result<(), BuildAlpnError>
         ensures answer { IsPushed result (length (protocols_wire self.old)) (length protocol.now) }
         ensures ok { OnOk result (self.new ≡ self.old ++ protocol.now ∷ []) }
@@ -55,10 +56,8 @@ impl AlpnBuilder {
         if self.octets.len() + 1 + protocol.len() > LongSvcParam::MAX_LEN {
             return Err(BuildAlpnError::LongSvcParam);
         }
-        match append_protocol(&mut self.octets, protocol) {
-            Ok(()) => Ok(()),
-            Err(error) => Err(BuildAlpnError::from(error)),
-        }
+        append_protocol(&mut self.octets, protocol)?;
+        Ok(())
     }
 
     /// The value of the protocols.
@@ -66,10 +65,10 @@ impl AlpnBuilder {
         ensures { result ≡ values.Alpn self }
     {
         let AlpnBuilder { octets } = self;
-        ItemList::of(Octets::from_vec(octets))
+        ItemList::from_checked_octets(Octets::from_vec(octets))
     }
 
-    /// A copy, which may grow too.
+    /// A copy, which may grow too. Refused for want of memory alone.
     pub fn try_clone(&self) -> Result<AlpnBuilder, NoMemory>
         ensures { IfOk result (λ builder. builder ≡ self.now) }
     {
@@ -84,10 +83,10 @@ fn append_protocol(octets: &mut Vec<u8>, protocol: &[u8]) -> Result<(), NoMemory
     requires are { AreProtocols octets.old.items }
     requires protocol { length protocol.now ≤ 255 }
     requires room { length octets.old.items + 1 + length protocol.now ≤ 65535 }
-    ensures ok { OnOk result (protocols octets.new.items ≡ protocols octets.old.items ++ protocol.now ∷ []) }
+    ensures ok { OnOk result (protocols octets.new.items
+        ≡ protocols octets.old.items ++ protocol.now ∷ []) }
     ensures err { OnErr result (octets.new.items ≡ octets.old.items) }
     ensures are { AreProtocols octets.new.items }
-    ensures few { length octets.new.items < 65536 }
 {
     octets.reserve(1 + protocol.len())?;
     octets.push(protocol.len() as u8).unwrap();

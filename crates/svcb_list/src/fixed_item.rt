@@ -1,15 +1,14 @@
 //! The octets of items that have as many octets each.
 
-ghost use Rattle.std.specs.Prelude.{◌≡◌, ◌*◌, ◌<◌, ◌≤◌, ◌%◌, ◌==◌, true, ℕ, List, ◌++◌, length, IfOk, OnOk, refl};
+ghost use Rattle.std.specs.Prelude.{◌≡◌, ◌*◌, ◌<◌, ◌≤◌, ℕ, List, ◌++◌, length, IfOk, OnOk};
 ghost use Rattle.std.specs.List.{flat_map};
-ghost use Rattle.wire_spec.specs.Octets.{be2};
-ghost use Rattle.wire_spec.specs.Values.{Each};
-ghost use Rattle.svcb_list.specs.Building.{IsBuilt};
-ghost use Rattle.std.proofs.Common.{lit<};
+ghost use Rattle.name_spec.specs.Octets.{be2};
+ghost use Rattle.svcb_spec.specs.Values.{Each};
+ghost use Rattle.svcb_list.specs.Building.{IsBuilt, AreItems};
 
 use registry::{BuildValueError, IanaNumber, Integer, LongSvcParam, SvcParamKey};
 use std::alloc::Global;
-use wire_base::{Ipv4Addr, Ipv6Addr, NoMemory, Octets};
+use wire_base::{Address, NoMemory, Octets};
 
 /// An item of a list whose items have as many octets each.
 pub(crate) trait FixedItem: Copy {
@@ -26,17 +25,12 @@ pub(crate) trait FixedItem: Copy {
     fn append(self, target: &mut Vec<u8>) -> Result<(), NoMemory>
         ensures ok { OnOk result (target.new.items ≡ target.old.items ++ octets self) }
         ensures len { OnOk result (length (octets self) ≡ LEN) };
-
-    /// An item has octets.
-    ghost some: { 0 < LEN };
 }
 
 impl FixedItem for u16 {
     ghost LEN = { 2 };
 
     ghost octets = { be2 };
-
-    ghost some = { lit< tt };
 
     const LEN: usize = 2;
 
@@ -50,8 +44,6 @@ impl FixedItem for SvcParamKey {
 
     ghost octets = { be2 };
 
-    ghost some = { lit< tt };
-
     const LEN: usize = 2;
 
     fn append(self, target: &mut Vec<u8>) -> Result<(), NoMemory> {
@@ -59,14 +51,12 @@ impl FixedItem for SvcParamKey {
     }
 }
 
-impl FixedItem for Ipv4Addr {
-    ghost LEN = { 4 };
+impl<const N: usize> FixedItem for Address<N> {
+    ghost LEN = { N };
 
     ghost octets = { λ address. address };
 
-    ghost some = { lit< tt };
-
-    const LEN: usize = 4;
+    const LEN: usize = N;
 
     fn append(self, target: &mut Vec<u8>) -> Result<(), NoMemory> {
         target.extend_from_slice(&self.octets())?;
@@ -74,44 +64,27 @@ impl FixedItem for Ipv4Addr {
     }
 }
 
-impl FixedItem for Ipv6Addr {
-    ghost LEN = { 16 };
-
-    ghost octets = { λ address. address };
-
-    ghost some = { lit< tt };
-
-    const LEN: usize = 16;
-
-    fn append(self, target: &mut Vec<u8>) -> Result<(), NoMemory> {
-        target.extend_from_slice(&self.octets())?;
-        Ok(())
-    }
-}
-
-/// The octets of items in order. Refused as too long exactly where they are more than 65,535, and else only for want of
-/// memory.
-#[tactic(auto, using(crate::proofs::BuildLemmas::items_whole))]
-pub(crate) fn octets_of<I: FixedItem>(alloc: Global, items: &[I]) -> Result<Octets, BuildValueError>
-    ensures octets { IfOk result (λ octets. octets ≡ flat_map I.octets items.now) }
-    ensures each { OnOk result (Each (λ item. length (I.octets item) ≡ I.LEN) items.now) }
-    ensures whole { IfOk result (λ octets. (length octets % I.LEN == 0) ≡ true) }
-    ensures few { IfOk result (λ octets. length octets < 65536) }
+/// The octets of items in order. Refused as `LongSvcParam` exactly where they are more than 65,535, and else only for
+/// want of memory.
+pub(crate) fn compose_items<I: FixedItem>(
+    alloc: Global,
+    items: &[I],
+) -> Result<Octets, BuildValueError>
+    requires { 0 < I.LEN }
+    ensures items { IfOk result (λ octets. AreItems I.octets I.LEN items.now octets) }
     ensures answer { IsBuilt result (length items.now * I.LEN) }
 {
     if items.len() > LongSvcParam::MAX_LEN / I::LEN {
         return Err(BuildValueError::LongSvcParam);
     }
-    match compose_all(alloc, items) {
-        Ok(octets) => Ok(Octets::from_vec(octets)),
-        Err(error) => Err(BuildValueError::from(error)),
-    }
+    let octets = append_items(alloc, items)?;
+    Ok(Octets::from_vec(octets))
 }
 
 // The octets of items in order. Room is made once.
-fn compose_all<I: FixedItem>(alloc: Global, items: &[I]) -> Result<Vec<u8>, NoMemory>
+fn append_items<I: FixedItem>(alloc: Global, items: &[I]) -> Result<Vec<u8>, NoMemory>
     requires { length items.now * I.LEN ≤ 65535 }
-    ensures octets { IfOk result (λ octets. octets.items ≡ flat_map I.octets items.now) }
+    ensures joined { IfOk result (λ octets. octets.items ≡ flat_map I.octets items.now) }
     ensures each { OnOk result (Each (λ item. length (I.octets item) ≡ I.LEN) items.now) }
 {
     let mut octets = Vec::with_capacity(alloc, items.len() * I::LEN)?;

@@ -1,20 +1,23 @@
 //! IPv6 addresses at which the target may be reached (RFC 9460, section 7.3).
 
 ghost use Rattle.std.specs.Prelude.{◌≡◌, ◌*◌, ◌<◌, ◌∷◌, ◌%◌, ◌==◌, true, ℕ, List, length, refl, IfOk};
-ghost use Rattle.wire_spec.specs.Values as values;
+ghost use Rattle.svcb_spec.specs.Values as values;
+ghost use Rattle.svcb_list.specs.Holding.{addresses_hold};
 ghost use Rattle.svcb_list.specs.Building.{IsBuilt};
-ghost use Rattle.wire_spec.specs.ReadingValues.{parts, parts_fault};
+ghost use Rattle.std.proofs.Common.{lit<};
+ghost use Rattle.svcb_spec.specs.ReadingValues.{parts, parts_fault};
 
-use crate::fixed_item::octets_of;
+use crate::fixed_item::compose_items;
 use crate::item_iter::ItemIter;
 use crate::item_list::{ItemList, ItemListRef};
 use crate::list_type::{ListItems, ListType};
-use crate::parts::{check_addresses, split_part};
+use crate::parts::{check_parts, split_address};
 use registry::{BuildValueError, SvcParamKey};
 use std::alloc::Global;
 use wire_base::{Ipv6Addr, ParseError};
 
 /// The type of `ipv6hint`, whose items are addresses of 16 octets each.
+#[derive(Debug)]
 pub struct Ipv6HintType;
 
 /// IPv6 addresses at which the target may be reached.
@@ -27,16 +30,14 @@ pub type Ipv6HintRef<'a> = ItemListRef<'a, Ipv6HintType>;
 pub type Ipv6HintIter<'a> = ItemIter<'a, Ipv6HintType>;
 
 impl Ipv6Hint {
-    /// The value of a list of addresses. `LongSvcParam` exactly over 65,535 octets, which is over 4,095 addresses.
-    #[tactic(auto, using(crate::proofs::BuildLemmas::parts_sound, crate::proofs::PartLemmas::parts_encoded))]
+    /// The value of a list of addresses. Refused as `LongSvcParam` exactly over 65,535 octets, which is over 4,095
+    /// addresses, else for want of memory alone.
+    #[tactic(auto, using(crate::proofs::BuildLemmas::addresses_built))]
     pub fn from_addrs(alloc: Global, addrs: &[Ipv6Addr]) -> Result<Ipv6Hint, BuildValueError>
         ensures value { IfOk result (λ list. list ≡ values.Ipv6Hint addrs.now) }
         ensures answer { IsBuilt result (length addrs.now * 16) }
     {
-        match octets_of(alloc, addrs) {
-            Ok(octets) => Ok(ItemList::of(octets)),
-            Err(error) => Err(error),
-        }
+        Ok(ItemList::from_checked_octets(compose_items(alloc, addrs)?))
     }
 }
 
@@ -51,12 +52,17 @@ impl ListType for Ipv6HintType {
 
     ghost has_key = { λ octets. refl };
 
+    ghost has_items = { λ octets small holds. addresses_hold 16 octets (lit< tt) holds.whole };
+
+    const NAME: &'static str = "Ipv6Hint";
+
     fn key() -> SvcParamKey {
         SvcParamKey::IPV6HINT
     }
 
+    #[tactic(auto, using(crate::proofs::PartLemmas::parts_encoded))]
     fn check(octets: &[u8]) -> Result<(), ParseError> {
-        check_addresses(octets, 16)
+        check_parts(octets, 16)
     }
 }
 
@@ -75,24 +81,7 @@ impl<'a> ListItems<'a> for Ipv6HintType {
 
     ghost lists = { λ octets. refl };
 
-    fn split(octets: &'a [u8]) -> (Ipv6Addr, &'a [u8])
-        requires some { 0 < length octets.now }
-        requires whole { (length octets.now % 16 == 0) ≡ true }
-        ensures items { parts 16 octets.now ≡ result.0 ∷ parts 16 result.1.now }
-        ensures whole { (length result.1.now % 16 == 0) ≡ true }
-        ensures shorter { length result.1.now < length octets.now }
-    {
-        let (part, others) = split_part(octets, 16);
-        (address(part), others)
+    fn split(octets: &'a [u8]) -> (Ipv6Addr, &'a [u8]) {
+        split_address(octets)
     }
-}
-
-// The address of 16 octets.
-fn address(part: &[u8]) -> Ipv6Addr
-    requires { length part.now ≡ 16 }
-    ensures { result ≡ part.now }
-{
-    let mut octets = [0; 16];
-    octets.copy_from_slice(part);
-    Ipv6Addr::new(octets)
 }

@@ -9,8 +9,10 @@ use std::marker::{Model, PhantomData};
 
 /// The items of a list in order. Contracts see the octets of the items that are left.
 #[derive(Drop)]
+#[derive_where(Debug)]
 pub struct ItemIter<'a, T: ListType> {
     rest: &'a [u8],
+    #[derive_where(skip)]
     kind: PhantomData<T>,
 }
 
@@ -26,7 +28,7 @@ impl<'a, T: ListType> Model for ItemIter<'a, T> {
 
 impl<'a, T: ListType> ItemIter<'a, T> {
     /// The items in octets.
-    pub(crate) fn over(octets: &'a [u8]) -> ItemIter<'a, T>
+    pub(crate) fn new(octets: &'a [u8]) -> ItemIter<'a, T>
         requires { T.whole octets.now ≡ true }
         ensures { result ≡ octets.now }
     {

@@ -12,8 +12,6 @@ mod item_list;
 mod list_type;
 mod mandatory;
 mod parts;
-#[cfg(test)]
-mod tests;
 mod tls_supported_groups;
 
 pub use alpn::{Alpn, AlpnIter, AlpnRef, AlpnType};

@@ -1,11 +1,11 @@
 //! What tells the lists of items apart.
 
-ghost use Rattle.std.specs.Prelude.{◌≡◌, ◌<◌, ◌∷◌, ℕ, List, [], Bool, true, Option, None, length, OnOk};
+ghost use Rattle.std.specs.Prelude.{◌≡◌, ◌<◌, ◌∷◌, ℕ, List, [], Bool, true, Option, length, slice_index, OnOk};
 ghost use Rattle.wire_base.specs.Faults.{Gives};
-ghost use Rattle.wire_spec.specs.Octets.{Fault};
-ghost use Rattle.wire_spec.specs.Values.{Value, encode, key_of};
-ghost use Rattle.wire_spec.specs.ReadingValues.{take_all};
-ghost use Rattle.svcb_list.specs.Reading.{all_of};
+ghost use Rattle.name_spec.specs.Octets.{Fault};
+ghost use Rattle.svcb_spec.specs.Values.{Value, HasItems, key_of};
+ghost use Rattle.svcb_spec.specs.ReadingValues.{taking_all, whole_value};
+ghost use Rattle.svcb_list.specs.Reading.{HoldsValue};
 
 use registry::SvcParamKey;
 use wire_base::ParseError;
@@ -24,20 +24,26 @@ pub trait ListType {
     /// Whether octets are whole items.
     ghost whole: { List ℕ → Bool };
 
+    /// What `Debug` calls a value.
+    const NAME: &'static str;
+
     /// The parameter's key.
     fn key() -> SvcParamKey
         ensures { result ≡ key };
 
-    /// Tests octets that are to be a value. Refused by their first fault, and never for want of memory.
+    /// Tests octets that are to be a value. Refused by their first fault, as `Form` or `ShortInput`, and never for want
+    /// of memory.
     fn check(octets: &[u8]) -> Result<(), ParseError>
-        ensures answer { Gives (λ _. all_of octets.now (value octets.now)) result (take_all (fault octets.now) (value octets.now) octets.now) }
-        ensures sound { OnOk result (fault octets.now ≡ None) }
-        ensures encodes { OnOk result (encode (value octets.now) ≡ octets.now) }
-        ensures whole { OnOk result (whole octets.now ≡ true) }
-        ensures few { OnOk result (length octets.now < 65536) };
+        ensures answer { Gives (λ _. taking_all octets.now (value octets.now)) result
+            (whole_value fault value octets.now) }
+        ensures holds { OnOk result (HoldsValue value fault whole octets.now) };
 
     /// Each value has the key.
     ghost has_key: { (octets : List ℕ) → key_of (value octets) ≡ key };
+
+    /// Octets that are a value have items of its type.
+    ghost has_items: { (octets : List ℕ) → ((i : ℕ) → slice_index octets i < 256)
+        → HoldsValue value fault whole octets → HasItems (value octets) };
 }
 
 /// The items of a type, which may stay in the octets.
@@ -59,7 +65,7 @@ pub trait ListItems<'a>: ListType {
 
     /// The first item, and the octets behind it.
     fn split(octets: &'a [u8]) -> (Self::Item, &'a [u8])
-        requires some { 0 < length octets.now }
+        requires not_empty { 0 < length octets.now }
         requires whole { Self.whole octets.now ≡ true }
         ensures items { items octets.now ≡ seen result.0 ∷ items result.1.now }
         ensures whole { Self.whole result.1.now ≡ true }

@@ -1,20 +1,22 @@
 //! The keys that a client must know (RFC 9460, section 8).
 
 ghost use Rattle.std.specs.Prelude.{◌≡◌, ◌*◌, ◌<◌, ◌∷◌, ◌%◌, ◌==◌, true, ℕ, length, refl, IfOk};
-ghost use Rattle.wire_spec.specs.Values as values;
+ghost use Rattle.svcb_spec.specs.Values as values;
+ghost use Rattle.svcb_list.specs.Holding.{numbers_hold};
 ghost use Rattle.svcb_list.specs.Building.{IsBuilt};
-ghost use Rattle.wire_spec.specs.ReadingValues.{numbers, parts_fault};
+ghost use Rattle.svcb_spec.specs.ReadingValues.{numbers, parts_fault};
 
-use crate::fixed_item::octets_of;
+use crate::fixed_item::compose_items;
 use crate::item_iter::ItemIter;
 use crate::item_list::{ItemList, ItemListRef};
 use crate::list_type::{ListItems, ListType};
-use crate::parts::{check_numbers, split_number};
+use crate::parts::{check_parts, split_number};
 use registry::{BuildValueError, SvcParamKey};
 use std::alloc::Global;
 use wire_base::ParseError;
 
 /// The type of `mandatory`, whose items are keys of two octets each.
+#[derive(Debug)]
 pub struct MandatoryType;
 
 /// The keys of the parameters without which the record is not to be used.
@@ -27,16 +29,14 @@ pub type MandatoryRef<'a> = ItemListRef<'a, MandatoryType>;
 pub type MandatoryIter<'a> = ItemIter<'a, MandatoryType>;
 
 impl Mandatory {
-    /// The value of a list of keys. `LongSvcParam` exactly over 65,535 octets, which is over 32,767 keys.
-    #[tactic(auto, using(crate::proofs::BuildLemmas::numbers_read, crate::proofs::BuildLemmas::numbers_written, crate::proofs::BuildLemmas::parts_sound))]
+    /// The value of a list of keys. Refused as `LongSvcParam` exactly over 65,535 octets, which is over 32,767 keys, else
+    /// for want of memory alone.
+    #[tactic(auto, using(crate::proofs::BuildLemmas::numbers_built))]
     pub fn from_keys(alloc: Global, keys: &[SvcParamKey]) -> Result<Mandatory, BuildValueError>
         ensures value { IfOk result (λ list. list ≡ values.Mandatory keys.now) }
         ensures answer { IsBuilt result (length keys.now * 2) }
     {
-        match octets_of(alloc, keys) {
-            Ok(octets) => Ok(ItemList::of(octets)),
-            Err(error) => Err(error),
-        }
+        Ok(ItemList::from_checked_octets(compose_items(alloc, keys)?))
     }
 }
 
@@ -51,12 +51,17 @@ impl ListType for MandatoryType {
 
     ghost has_key = { λ octets. refl };
 
+    ghost has_items = { λ octets small holds. numbers_hold octets small holds.whole };
+
+    const NAME: &'static str = "Mandatory";
+
     fn key() -> SvcParamKey {
         SvcParamKey::MANDATORY
     }
 
+    #[tactic(auto, using(crate::proofs::PartLemmas::numbers_encoded))]
     fn check(octets: &[u8]) -> Result<(), ParseError> {
-        check_numbers(octets)
+        check_parts(octets, 2)
     }
 }
 
@@ -75,13 +80,7 @@ impl<'a> ListItems<'a> for MandatoryType {
 
     ghost lists = { λ octets. refl };
 
-    fn split(octets: &'a [u8]) -> (SvcParamKey, &'a [u8])
-        requires some { 0 < length octets.now }
-        requires whole { (length octets.now % 2 == 0) ≡ true }
-        ensures items { numbers octets.now ≡ result.0 ∷ numbers result.1.now }
-        ensures whole { (length result.1.now % 2 == 0) ≡ true }
-        ensures shorter { length result.1.now < length octets.now }
-    {
+    fn split(octets: &'a [u8]) -> (SvcParamKey, &'a [u8]) {
         let (number, others) = split_number(octets);
         (SvcParamKey::from(number), others)
     }

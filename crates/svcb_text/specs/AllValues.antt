@@ -1,5 +1,5 @@
 -- Values of every type, as contracts see them.
-use Rattle.wire_spec.specs.Values as values
+use Rattle.svcb_spec.specs.Values as values
 use Rattle.svcb_text.specs.declared.all_values.AllValues.{AllValues}
 use Rattle.svcb_text.specs.declared.all_values.AllValues.TheVariants.{Mandatory, Alpn, NoDefaultAlpn, Port, Ech, Ipv4Hint, Ipv6Hint, DohPath, Ohttp, TlsSupportedGroups, Unknown}
 

@@ -1,6 +1,6 @@
 -- Views of values of every type, as contracts see them.
-use Rattle.wire_spec.specs.Values as values
-use Rattle.wire_spec.specs.ReadingValues.{numbers, parts, protocols}
+use Rattle.svcb_spec.specs.Values as values
+use Rattle.svcb_spec.specs.ReadingValues.{numbers, parts, protocols}
 use Rattle.svcb_value.specs.UnknownView.{seen_unknown}
 use Rattle.svcb_text.specs.declared.all_values_ref.AllValuesRef.{AllValuesRef}
 use Rattle.svcb_text.specs.declared.all_values_ref.AllValuesRef.TheVariants.{Mandatory, Alpn, NoDefaultAlpn, Port, Ech, Ipv4Hint, Ipv6Hint, DohPath, Ohttp, TlsSupportedGroups, Unknown}

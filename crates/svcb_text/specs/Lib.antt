@@ -1,2 +1,3 @@
 pub mod AllValues
 pub mod AllValuesRef
+pub mod WholeValues

@@ -1,6 +1,6 @@
 //! Values of every type.
 
-ghost use Rattle.std.specs.Prelude.{◌≡◌, IfOk};
+ghost use Rattle.std.specs.Prelude.{◌≡◌, length, IfOk};
 
 use crate::all_values_ref::AllValuesRef;
 use registry::{ComposeSvcParamValue, SvcParamKey, SvcParamValue};
@@ -10,7 +10,7 @@ use svcb_value::{DohPath, Ech, NoDefaultAlpn, Ohttp, Port, UnknownSvcParam};
 use wire_base::NoMemory;
 
 /// A value of any key. Equality looks at the variant, the key and the octets.
-#[derive(PartialEq, Eq, Hash, Drop)]
+#[derive(Debug, PartialEq, Eq, Hash, Drop)]
 pub enum AllValues {
     /// The keys that a client must know.
     Mandatory(Mandatory),
@@ -40,7 +40,7 @@ impl AllValues {
     ghost use Rattle.svcb_text.specs.AllValues.{value_of};
     ghost use Rattle.svcb_text.specs.AllValuesRef.{seen_view};
 
-    /// A view of the same value.
+    /// A view of the same value. No memory is taken.
     pub fn for_ref(&self) -> AllValuesRef<'_>
         ensures { seen_view result ≡ value_of self.now }
     {
@@ -62,6 +62,8 @@ impl AllValues {
     }
 
     /// A copy.
+    ///
+    /// `NoMemory`: the memory for it isn't there.
     pub fn try_clone(&self, alloc: Global) -> Result<AllValues, NoMemory>
         ensures { IfOk result (λ value. value_of value ≡ value_of self.now) }
     {
@@ -85,14 +87,14 @@ impl AllValues {
 
 impl SvcParamValue for AllValues {
     ghost use Rattle.std.specs.Prelude.{◌≡◌, ◌<◌};
-    ghost use Rattle.wire_spec.specs.Values.{key_of};
+    ghost use Rattle.svcb_spec.specs.Values.{key_of};
     ghost use Rattle.svcb_text.specs.AllValues.{value_of};
 
     ghost key_of = { λ value. key_of (value_of value) };
 
     fn key(&self) -> SvcParamKey
         ensures key { result ≡ key_of (value_of self.now) }
-        ensures small { key_of (value_of self.now) < 65536 }
+        ensures in_range { key_of (value_of self.now) < 65536 }
     {
         match self {
             AllValues::Mandatory(value) => value.key(),
@@ -111,12 +113,15 @@ impl SvcParamValue for AllValues {
 }
 
 impl ComposeSvcParamValue for AllValues {
-    ghost use Rattle.wire_spec.specs.Values.{encode};
+    ghost use Rattle.svcb_spec.specs.Values.{encode, IsValue};
     ghost use Rattle.svcb_text.specs.AllValues.{value_of};
 
     ghost octets = { λ value. encode (value_of value) };
 
-    fn compose_len(&self) -> u16 {
+    fn compose_len(&self) -> u16
+        ensures len { result ≡ length (encode (value_of self.now)) }
+        ensures value { IsValue (value_of self.now) }
+    {
         match self {
             AllValues::Mandatory(value) => value.compose_len(),
             AllValues::Alpn(value) => value.compose_len(),

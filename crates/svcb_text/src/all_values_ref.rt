@@ -3,6 +3,7 @@
 ghost use Rattle.std.specs.Prelude.{◌≡◌, ◌≤◌, length, IfOk};
 
 use crate::all_values::AllValues;
+use crate::whole_value::parse_wholly;
 use registry::{ComposeSvcParamValue, ParseSvcParamValue, SvcParamKey, SvcParamValue};
 use std::alloc::Global;
 use svcb_list::{AlpnRef, Ipv4HintRef, Ipv6HintRef, MandatoryRef, TlsSupportedGroupsRef};
@@ -10,7 +11,7 @@ use svcb_value::{DohPathRef, EchRef, NoDefaultAlpn, Ohttp, Port, UnknownSvcParam
 use wire_base::{NoMemory, ParseError, Parser};
 
 /// A view of a value of any key. Equality looks at the variant, the key and the octets.
-#[derive(Clone, Copy, PartialEq, Eq, Hash)]
+#[derive(Clone, Copy, Debug, PartialEq, Eq, Hash)]
 pub enum AllValuesRef<'a> {
     /// The keys that a client must know.
     Mandatory(MandatoryRef<'a>),
@@ -37,42 +38,27 @@ pub enum AllValuesRef<'a> {
 }
 
 impl<'a> AllValuesRef<'a> {
-    ghost use Rattle.std.specs.Prelude.{option_map};
-    ghost use Rattle.std.specs.Result.{result_ok};
-    ghost use Rattle.wire_spec.specs.ReadingValues.{take_value, wholly, value_in};
+    ghost use Rattle.svcb_spec.specs.ReadingValues.{value_in};
     ghost use Rattle.svcb_text.specs.AllValues.{value_of};
     ghost use Rattle.svcb_text.specs.AllValuesRef.{seen_view};
 
     /// The value that octets are under a key: of the key's type where they are wholly one, else the octets as they
-    /// stand. There are at most 65,535 octets.
+    /// stand. There are at most 65,535 octets (RFC 9460, section 2.2). No memory is taken.
     pub fn parse_any(key: SvcParamKey, slice: &'a [u8]) -> AllValuesRef<'a>
-        requires few { length slice.now ≤ 65535 }
+        requires fits { length slice.now ≤ 65535 }
         ensures { seen_view result ≡ value_in key slice.now }
     {
-        match AllValuesRef::parse_wholly(key, slice) {
-            Some(value) => value,
-            None => AllValuesRef::Unknown(UnknownSvcParamRef::new(key, slice).unwrap()),
-        }
-    }
-
-    // The value that octets wholly are.
-    fn parse_wholly(key: SvcParamKey, slice: &'a [u8]) -> Option<AllValuesRef<'a>>
-        ensures { option_map seen_view result ≡ result_ok (wholly slice.now (take_value key slice.now)) }
-    {
-        let mut parser = Parser::from_ref(slice);
-        match AllValuesRef::parse_value(key, &mut parser) {
-            Ok(Some(value)) => {
-                if parser.remaining() > 0 {
-                    return None;
-                }
-                Some(value)
-            }
-            Ok(None) => None,
-            Err(_) => None,
+        let unknown = UnknownSvcParamRef::new(key, slice).unwrap();
+        match parse_wholly(key, slice) {
+            Ok(Some(value)) => value,
+            Ok(None) => AllValuesRef::Unknown(unknown),
+            Err(_) => AllValuesRef::Unknown(unknown),
         }
     }
 
     /// An owned copy.
+    ///
+    /// `NoMemory`: the memory for it isn't there.
     pub fn to_owned_data(&self, alloc: Global) -> Result<AllValues, NoMemory>
         ensures { IfOk result (λ value. value_of value ≡ seen_view self.now) }
     {
@@ -96,14 +82,14 @@ impl<'a> AllValuesRef<'a> {
 
 impl<'a> SvcParamValue for AllValuesRef<'a> {
     ghost use Rattle.std.specs.Prelude.{◌≡◌, ◌<◌};
-    ghost use Rattle.wire_spec.specs.Values.{key_of};
+    ghost use Rattle.svcb_spec.specs.Values.{key_of};
     ghost use Rattle.svcb_text.specs.AllValuesRef.{seen_view};
 
     ghost key_of = { λ view. key_of (seen_view view) };
 
     fn key(&self) -> SvcParamKey
         ensures key { result ≡ key_of (seen_view self.now) }
-        ensures small { key_of (seen_view self.now) < 65536 }
+        ensures in_range { key_of (seen_view self.now) < 65536 }
     {
         match self {
             AllValuesRef::Mandatory(view) => view.key(),
@@ -124,8 +110,8 @@ impl<'a> SvcParamValue for AllValuesRef<'a> {
 /// Every key is taken: octets under the key of a type are read as that type, and other octets stay as they are.
 impl<'a> ParseSvcParamValue<'a> for AllValuesRef<'a> {
     ghost use Rattle.std.specs.Prelude.{true};
-    ghost use Rattle.wire_spec.specs.Values.{Value};
-    ghost use Rattle.wire_spec.specs.ReadingValues.{take_value};
+    ghost use Rattle.svcb_spec.specs.Values.{Value};
+    ghost use Rattle.svcb_spec.specs.ReadingValues.{take_value};
     ghost use Rattle.svcb_text.specs.AllValuesRef.{seen_view};
 
     ghost Seen = { Value };
@@ -140,6 +126,7 @@ impl<'a> ParseSvcParamValue<'a> for AllValuesRef<'a> {
         key: SvcParamKey,
         parser: &mut Parser<'a>,
     ) -> Result<Option<AllValuesRef<'a>>, ParseError> {
+        // the parser stands within its data
         let _left = parser.peek_all();
         match key {
             SvcParamKey::MANDATORY => Ok(Some(AllValuesRef::Mandatory(MandatoryRef::parse(
@@ -164,12 +151,15 @@ impl<'a> ParseSvcParamValue<'a> for AllValuesRef<'a> {
 }
 
 impl<'a> ComposeSvcParamValue for AllValuesRef<'a> {
-    ghost use Rattle.wire_spec.specs.Values.{encode};
+    ghost use Rattle.svcb_spec.specs.Values.{encode, IsValue};
     ghost use Rattle.svcb_text.specs.AllValuesRef.{seen_view};
 
     ghost octets = { λ view. encode (seen_view view) };
 
-    fn compose_len(&self) -> u16 {
+    fn compose_len(&self) -> u16
+        ensures len { result ≡ length (encode (seen_view self.now)) }
+        ensures value { IsValue (seen_view self.now) }
+    {
         match self {
             AllValuesRef::Mandatory(view) => view.compose_len(),
             AllValuesRef::Alpn(view) => view.compose_len(),

@@ -4,9 +4,8 @@
 mod all_values;
 mod all_values_ref;
 mod conversions;
+mod whole_value;
 
 pub use all_values::AllValues;
 pub use all_values_ref::AllValuesRef;
-
-#[cfg(test)]
-mod tests;
+pub use whole_value::parse_wholly;

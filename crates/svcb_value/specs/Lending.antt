@@ -1,7 +1,7 @@
 -- A value whose octets are lent for writing.
 use Rattle.std.specs.Prelude.{ℕ, List}
 use Rattle.std.specs.Borrow.{Lends, MutBor, Fml, u8, Array}
-use Rattle.wire_spec.specs.Values.{Value, Unknown, key_of, encode}
+use Rattle.svcb_spec.specs.Values.{Value, Unknown, key_of, encode}
 use Rattle.wire_base.specs.Lending.{written_over}
 use Rattle.svcb_value.specs.contracts.unknown.UnknownSvcParam.{the_row}
 

@@ -1,5 +1,5 @@
 -- A view of a value without a type, as contracts see it.
-use Rattle.wire_spec.specs.Values.{Value, Unknown}
+use Rattle.svcb_spec.specs.Values.{Value, Unknown}
 use Rattle.svcb_value.specs.declared.unknown_ref.UnknownSvcParamRef.{UnknownSvcParamRef}
 
 -- the value that is seen

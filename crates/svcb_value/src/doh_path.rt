@@ -1,7 +1,7 @@
 //! Paths of DNS over HTTPS.
 
 ghost use Rattle.std.specs.Prelude.{◌≡◌, ◌<◌, ◌≤◌, length, IfOk, IfErr, OnOk, refl};
-ghost use Rattle.wire_spec.specs.Values as values;
+ghost use Rattle.svcb_spec.specs.Values as values;
 ghost use Rattle.svcb_value.specs.Building.{IsCause};
 
 use crate::opaque::{OpaqueType, OpaqueValue};
@@ -11,6 +11,7 @@ use std::alloc::Global;
 use wire_base::Octets;
 
 /// The type of `dohpath` (RFC 9461, section 5): a URI template in UTF-8. Octets that are no UTF-8 are values too.
+#[derive(Debug)]
 pub struct DohPathType;
 
 impl OpaqueType for DohPathType {
@@ -21,6 +22,10 @@ impl OpaqueType for DohPathType {
     ghost belongs = { λ octets. refl };
 
     ghost encodes = { λ octets. refl };
+
+    ghost has_items = { λ octets. tt };
+
+    const NAME: &'static str = "DohPath";
 
     fn key() -> SvcParamKey {
         SvcParamKey::DOHPATH
@@ -35,7 +40,7 @@ pub type DohPathRef<'a> = OpaqueRef<'a, DohPathType>;
 
 impl OpaqueValue<DohPathType> {
     /// The value of a text. Refused as `LongSvcParam` exactly where the text has more than 65,535 octets, before
-    /// memory is taken, else for want of memory alone.
+    /// memory is taken, and else for want of memory alone.
     pub fn from_text(alloc: Global, text: &str) -> Result<DohPath, BuildValueError>
         ensures value { IfOk result (λ value. value ≡ values.DohPath text.now) }
         ensures ok { OnOk result (length text.now ≤ 65535) }

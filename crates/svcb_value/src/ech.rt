@@ -1,13 +1,14 @@
 //! Configurations of Encrypted ClientHello.
 
 ghost use Rattle.std.specs.Prelude.{◌≡◌, ◌<◌, refl};
-ghost use Rattle.wire_spec.specs.Values as values;
+ghost use Rattle.svcb_spec.specs.Values as values;
 
 use crate::opaque::{OpaqueType, OpaqueValue};
 use crate::opaque_ref::OpaqueRef;
 use registry::SvcParamKey;
 
 /// The type of `ech` (RFC 9460, section 14.3.2, key 5): an ECHConfigList, whose octets are not looked into.
+#[derive(Debug)]
 pub struct EchType;
 
 impl OpaqueType for EchType {
@@ -18,6 +19,10 @@ impl OpaqueType for EchType {
     ghost belongs = { λ octets. refl };
 
     ghost encodes = { λ octets. refl };
+
+    ghost has_items = { λ octets. tt };
+
+    const NAME: &'static str = "Ech";
 
     fn key() -> SvcParamKey {
         SvcParamKey::ECH

@@ -6,7 +6,7 @@ mod ech;
 mod markers;
 mod opaque;
 mod opaque_ref;
-mod parameter;
+pub mod parameter;
 mod port;
 mod unknown;
 mod unknown_ref;
@@ -19,6 +19,3 @@ pub use opaque_ref::OpaqueRef;
 pub use port::Port;
 pub use unknown::UnknownSvcParam;
 pub use unknown_ref::UnknownSvcParamRef;
-
-#[cfg(test)]
-mod tests;

@@ -1,7 +1,7 @@
 //! Values that say something by being there, and have no octets.
 
 ghost use Rattle.std.specs.Prelude.{◌≡◌, ℕ, List, [], ◌==◌, Ok, IsOk, OnOk};
-ghost use Rattle.wire_spec.specs.Values as values;
+ghost use Rattle.svcb_spec.specs.Values as values;
 
 use registry::{ComposeSvcParamValue, ParseSvcParamValue, SvcParamKey, SvcParamValue};
 use wire_base::{NoMemory, ParseError, Parser};
@@ -11,7 +11,7 @@ use wire_base::{NoMemory, ParseError, Parser};
 pub struct NoDefaultAlpn;
 
 impl NoDefaultAlpn {
-    /// The value. It has no octets: all that remain are left.
+    /// The value, which is never refused. It has no octets: all that remain are left.
     pub fn parse(parser: &mut Parser<'_>) -> Result<NoDefaultAlpn, ParseError>
         ensures always { IsOk result }
         ensures stays { parser.new ≡ parser.old }
@@ -41,22 +41,20 @@ impl<'a> ParseSvcParamValue<'a> for NoDefaultAlpn {
         key: SvcParamKey,
         parser: &mut Parser<'a>,
     ) -> Result<Option<NoDefaultAlpn>, ParseError> {
-        // the parser stands within its data
-        let _left = parser.peek_all();
         if key != SvcParamKey::NO_DEFAULT_ALPN {
             return Ok(None);
         }
-        match NoDefaultAlpn::parse(parser) {
-            Ok(value) => Ok(Some(value)),
-            Err(error) => Err(error),
-        }
+        Ok(Some(NoDefaultAlpn::parse(parser)?))
     }
 }
 
 impl ComposeSvcParamValue for NoDefaultAlpn {
     ghost octets = { λ _. [] };
 
-    fn compose_len(&self) -> u16 {
+    fn compose_len(&self) -> u16
+        ensures len { result ≡ 0 }
+        ensures value { values.IsValue values.NoDefaultAlpn }
+    {
         0
     }
 
@@ -70,7 +68,7 @@ impl ComposeSvcParamValue for NoDefaultAlpn {
 pub struct Ohttp;
 
 impl Ohttp {
-    /// The value. It has no octets: all that remain are left.
+    /// The value, which is never refused. It has no octets: all that remain are left.
     pub fn parse(parser: &mut Parser<'_>) -> Result<Ohttp, ParseError>
         ensures always { IsOk result }
         ensures stays { parser.new ≡ parser.old }
@@ -97,22 +95,20 @@ impl<'a> ParseSvcParamValue<'a> for Ohttp {
     ghost reads = { λ _ _. Ok (record { value = values.Ohttp; len = 0 }) };
 
     fn parse_value(key: SvcParamKey, parser: &mut Parser<'a>) -> Result<Option<Ohttp>, ParseError> {
-        // the parser stands within its data
-        let _left = parser.peek_all();
         if key != SvcParamKey::OHTTP {
             return Ok(None);
         }
-        match Ohttp::parse(parser) {
-            Ok(value) => Ok(Some(value)),
-            Err(error) => Err(error),
-        }
+        Ok(Some(Ohttp::parse(parser)?))
     }
 }
 
 impl ComposeSvcParamValue for Ohttp {
     ghost octets = { λ _. [] };
 
-    fn compose_len(&self) -> u16 {
+    fn compose_len(&self) -> u16
+        ensures len { result ≡ 0 }
+        ensures value { values.IsValue values.Ohttp }
+    {
         0
     }
 

@@ -1,14 +1,16 @@
 //! Values whose octets are not looked into.
 
 ghost use Rattle.std.specs.Prelude.{◌≡◌, ℕ, List, ◌≤◌, ◌<◌, length, IfOk, OnOk, OnErr};
-ghost use Rattle.wire_spec.specs.Values.{Value, key_of, encode};
-ghost use Rattle.wire_spec.specs.ReadingValues.{take_all, long_fault};
+ghost use Rattle.svcb_spec.specs.Values.{Value, key_of, encode, HasItems, IsValue};
+ghost use Rattle.svcb_spec.specs.ReadingValues.{taking_all, whole_value, long_fault};
 ghost use Rattle.wire_base.specs.Faults.{GivesCopy};
 ghost use Rattle.wire_base.specs.Input.{left};
+ghost use Rattle.wire_base.specs.Moving.{TakesAll, AppendsOctets};
 
 use crate::opaque_ref::OpaqueRef;
 use registry::{ComposeSvcParamValue, LongSvcParam, SvcParamKey, SvcParamValue};
 use std::alloc::Global;
+use std::fmt;
 use std::marker::{Model, PhantomData};
 use wire_base::{NoMemory, Octets, ParseError, Parser};
 
@@ -20,6 +22,9 @@ pub trait OpaqueType {
     /// The value of octets.
     ghost value: { List ℕ → Value };
 
+    /// What `Debug` calls a value.
+    const NAME: &'static str;
+
     /// The key of the type.
     fn key() -> SvcParamKey
         ensures { result ≡ key };
@@ -29,6 +34,9 @@ pub trait OpaqueType {
 
     /// A value's octets are those that it is made of.
     ghost encodes: { (octets : List ℕ) → encode (value octets) ≡ octets };
+
+    /// Any octets are a value.
+    ghost has_items: { (octets : List ℕ) → HasItems (value octets) };
 }
 
 /// A value whose octets are not looked into. Equality looks at the octets.
@@ -42,13 +50,16 @@ pub struct OpaqueValue<T: OpaqueType> {
 
 impl<T: OpaqueType> Model for OpaqueValue<T> {
     ghost use Rattle.std.specs.Prelude.{◌≡◌, ◌<◌, length};
-    ghost use Rattle.wire_spec.specs.Values as values;
+    ghost use Rattle.svcb_spec.specs.Values as values;
 
     ghost Value = { values.Value };
 
     ghost view = { λ a. T.value a.octets };
 
-    ghost invariant = { λ a. record { encodes : values.encode (T.value a.octets) ≡ a.octets; few : length a.octets < 65536 } };
+    ghost invariant = { λ a. record {
+      encodes : values.encode (T.value a.octets) ≡ a.octets;
+      fits : length a.octets < 65536;
+    } };
 
     ghost inverse = { λ value. record { octets = values.encode value; kind = record {} } };
 
@@ -56,7 +67,7 @@ impl<T: OpaqueType> Model for OpaqueValue<T> {
 }
 
 impl<T: OpaqueType> OpaqueValue<T> {
-    /// The value of octets. Refused exactly over 65,535 octets; they are then dropped.
+    /// The value of octets. Refused, as `LongSvcParam`, exactly over 65,535 octets; they are then dropped.
     pub fn from_octets(octets: Octets) -> Result<OpaqueValue<T>, LongSvcParam>
         ensures value { IfOk result (λ value. value ≡ T.value octets) }
         ensures ok { OnOk result (length octets ≤ 65535) }
@@ -72,9 +83,9 @@ impl<T: OpaqueType> OpaqueValue<T> {
     /// The value of all octets that remain. Refused as `Form` exactly where more than 65,535 remain, else for want of
     /// memory alone; the parser then stays.
     pub fn parse(alloc: Global, parser: &mut Parser<'_>) -> Result<OpaqueValue<T>, ParseError>
-        ensures answer { GivesCopy (λ value. record { value = value; len = length (encode value) }) result (take_all (long_fault (left parser.old)) (T.value (left parser.old)) (left parser.old)) }
-        ensures ok { OnOk result (parser.new ≡ record parser.old { pos = parser.old.end }) }
-        ensures err { OnErr result (parser.new ≡ parser.old) }
+        ensures answer { GivesCopy (taking_all (left parser.old)) result
+            (whole_value long_fault T.value (left parser.old)) }
+        ensures takes { TakesAll parser.old parser.new result }
     {
         let slice = parser.peek_all();
         LongSvcParam::check_len(slice.len())?;
@@ -96,7 +107,7 @@ impl<T: OpaqueType> OpaqueValue<T> {
     /// The octets.
     pub fn as_slice(&self) -> &[u8]
         ensures octets { result.now ≡ encode self.now }
-        ensures few { length (encode self.now) < 65536 }
+        ensures fits { length (encode self.now) < 65536 }
     {
         self.octets.as_slice()
     }
@@ -111,7 +122,7 @@ impl<T: OpaqueType> OpaqueValue<T> {
         }
     }
 
-    /// A copy.
+    /// A copy. Refused for want of memory alone.
     pub fn try_clone(&self, alloc: Global) -> Result<OpaqueValue<T>, NoMemory>
         ensures { IfOk result (λ value. value ≡ self.now) }
     {
@@ -119,6 +130,13 @@ impl<T: OpaqueType> OpaqueValue<T> {
             octets: self.octets.try_clone(alloc)?,
             kind: PhantomData,
         })
+    }
+}
+
+/// The name of the value, and its octets.
+impl<T: OpaqueType> fmt::Debug for OpaqueValue<T> {
+    fn fmt<W: fmt::Write>(&self, f: &mut fmt::Formatter<W>) -> fmt::Result {
+        f.debug_tuple(T::NAME).field(&self.as_slice()).finish()
     }
 }
 
@@ -133,7 +151,10 @@ impl<T: OpaqueType> SvcParamValue for OpaqueValue<T> {
 impl<T: OpaqueType> ComposeSvcParamValue for OpaqueValue<T> {
     ghost octets = { encode };
 
-    fn compose_len(&self) -> u16 {
+    fn compose_len(&self) -> u16
+        ensures len { result ≡ length (encode self.now) }
+        ensures value { IsValue self.now }
+    {
         self.octets.len() as u16
     }
 

@@ -1,16 +1,18 @@
 //! Views of values whose octets are not looked into.
 
-ghost use Rattle.std.specs.Prelude.{◌≡◌, ◌==◌, ℕ, List, ◌≤◌, ◌<◌, length, IfOk, OnOk, OnErr};
-ghost use Rattle.wire_spec.specs.Values.{Value, key_of, encode};
-ghost use Rattle.wire_spec.specs.ReadingValues.{take_all, long_fault};
+ghost use Rattle.std.specs.Prelude.{◌≡◌, ◌==◌, ℕ, List, ◌≤◌, ◌<◌, length, IfOk, OnOk, OnErr, ⊤};
+ghost use Rattle.svcb_spec.specs.Values.{Value, key_of, encode, IsValue};
+ghost use Rattle.svcb_spec.specs.ReadingValues.{taking_all, whole_value, long_fault};
 ghost use Rattle.wire_base.specs.Faults.{Gives};
 ghost use Rattle.wire_base.specs.Input.{left};
+ghost use Rattle.wire_base.specs.Moving.{TakesAll, AppendsOctets};
 
 use crate::opaque::{OpaqueType, OpaqueValue};
 use registry::{
     ComposeSvcParamValue, LongSvcParam, ParseSvcParamValue, SvcParamKey, SvcParamValue,
 };
 use std::alloc::{AllocError, Global};
+use std::fmt;
 use std::marker::PhantomData;
 use wire_base::{NoMemory, Octets, ParseError, Parser};
 
@@ -22,19 +24,23 @@ pub struct OpaqueRef<'a, T: OpaqueType> {
     #[derive_where(skip)]
     pub(crate) kind: PhantomData<T>,
     ghost encodes: { encode (T.value slice.now) ≡ slice.now },
-    ghost few: { length slice.now < 65536 },
+    ghost fits: { length slice.now < 65536 },
 }
 
 impl<'a, T: OpaqueType> Copy for OpaqueRef<'a, T> {}
 
 impl<'a, T: OpaqueType> Clone for OpaqueRef<'a, T> {
+    ghost is_clone = { λ view copy. copy ≡ view };
+
+    ghost is_infallible = { λ _. ⊤ };
+
     fn clone(&self) -> Result<OpaqueRef<'a, T>, AllocError> {
         Ok(*self)
     }
 }
 
 impl<'a, T: OpaqueType> OpaqueRef<'a, T> {
-    /// The value of octets. Refused exactly over 65,535 octets.
+    /// The value of octets. Refused, as `LongSvcParam`, exactly over 65,535 octets.
     pub fn from_slice(slice: &'a [u8]) -> Result<OpaqueRef<'a, T>, LongSvcParam>
         ensures value { IfOk result (λ view. view.slice.now ≡ slice.now) }
         ensures ok { OnOk result (length slice.now ≤ 65535) }
@@ -50,9 +56,9 @@ impl<'a, T: OpaqueType> OpaqueRef<'a, T> {
     /// The value of all octets that remain. Refused as `Form` exactly where more than 65,535 remain; the parser then
     /// stays.
     pub fn parse(parser: &mut Parser<'a>) -> Result<OpaqueRef<'a, T>, ParseError>
-        ensures answer { Gives (λ view. record { value = T.value view.slice.now; len = length view.slice.now }) result (take_all (long_fault (left parser.old)) (T.value (left parser.old)) (left parser.old)) }
-        ensures ok { OnOk result (parser.new ≡ record parser.old { pos = parser.old.end }) }
-        ensures err { OnErr result (parser.new ≡ parser.old) }
+        ensures answer { Gives (λ view. taking_all (left parser.old) (T.value view.slice.now))
+            result (whole_value long_fault T.value (left parser.old)) }
+        ensures takes { TakesAll parser.old parser.new result }
     {
         let slice = parser.peek_all();
         LongSvcParam::check_len(slice.len())?;
@@ -66,12 +72,12 @@ impl<'a, T: OpaqueType> OpaqueRef<'a, T> {
     /// The octets.
     pub fn as_slice(&self) -> &'a [u8]
         ensures octets { result.now ≡ self.now.slice.now }
-        ensures few { length result.now < 65536 }
+        ensures fits { length result.now < 65536 }
     {
         self.slice
     }
 
-    /// An owned copy.
+    /// An owned copy. Refused for want of memory alone.
     pub fn to_owned_data(&self, alloc: Global) -> Result<OpaqueValue<T>, NoMemory>
         ensures { IfOk result (λ value. value ≡ T.value self.now.slice.now) }
     {
@@ -79,6 +85,13 @@ impl<'a, T: OpaqueType> OpaqueRef<'a, T> {
             octets: Octets::from_slice(alloc, self.slice)?,
             kind: PhantomData,
         })
+    }
+}
+
+/// The name of the value, and its octets.
+impl<'a, T: OpaqueType> fmt::Debug for OpaqueRef<'a, T> {
+    fn fmt<W: fmt::Write>(&self, f: &mut fmt::Formatter<W>) -> fmt::Result {
+        f.debug_tuple(T::NAME).field(&self.slice).finish()
     }
 }
 
@@ -97,28 +110,28 @@ impl<'a, T: OpaqueType> ParseSvcParamValue<'a> for OpaqueRef<'a, T> {
 
     ghost takes = { λ key. key == T.key };
 
-    ghost reads = { λ _ octets. take_all (long_fault octets) (T.value octets) octets };
+    ghost reads = { λ _. whole_value long_fault T.value };
 
     fn parse_value(
         key: SvcParamKey,
         parser: &mut Parser<'a>,
     ) -> Result<Option<OpaqueRef<'a, T>>, ParseError> {
-        // the parser stands within its data
-        let _left = parser.peek_all();
         if key != T::key() {
             return Ok(None);
         }
-        match OpaqueRef::parse(parser) {
-            Ok(value) => Ok(Some(value)),
-            Err(error) => Err(error),
-        }
+        let view = OpaqueRef::from_slice(parser.peek_all())?;
+        parser.advance_to_end();
+        Ok(Some(view))
     }
 }
 
 impl<'a, T: OpaqueType> ComposeSvcParamValue for OpaqueRef<'a, T> {
     ghost octets = { λ view. encode (T.value view.slice.now) };
 
-    fn compose_len(&self) -> u16 {
+    fn compose_len(&self) -> u16
+        ensures len { result ≡ length (encode (T.value self.now.slice.now)) }
+        ensures value { IsValue (T.value self.now.slice.now) }
+    {
         self.slice.len() as u16
     }
 

@@ -1,11 +1,12 @@
 //! Ports.
 
-ghost use Rattle.std.specs.Prelude.{◌≡◌, ℕ, ◌+◌, ◌≤◌, ◌<◌, ◌==◌, OnOk, OnErr};
-ghost use Rattle.wire_spec.specs.Octets.{be2};
-ghost use Rattle.wire_spec.specs.Values as values;
-ghost use Rattle.wire_spec.specs.ReadingValues.{take_port};
+ghost use Rattle.std.specs.Prelude.{◌≡◌, ℕ, ◌+◌, ◌≤◌, ◌<◌, ◌==◌, length, OnOk, OnErr};
+ghost use Rattle.name_spec.specs.Octets.{be2};
+ghost use Rattle.svcb_spec.specs.Values as values;
+ghost use Rattle.svcb_spec.specs.ReadingValues.{take_port};
 ghost use Rattle.wire_base.specs.Faults.{Gives};
 ghost use Rattle.wire_base.specs.Input.{left};
+ghost use Rattle.wire_base.specs.Moving.{TakesOctets, AppendsOctets};
 
 use registry::{ComposeSvcParamValue, Integer, ParseSvcParamValue, SvcParamKey, SvcParamValue};
 use std::marker::Model;
@@ -38,23 +39,21 @@ impl Port {
     /// The number.
     pub fn port(self) -> u16
         ensures number { result ≡ self }
-        ensures small { result < 65536 }
+        ensures in_range { result < 65536 }
     {
         self.0
     }
 
-    /// The port in the next two octets; what stands behind them is left. Refused exactly where fewer remain; the
-    /// parser then stays.
+    /// The port in the next two octets; what stands behind them is left. Refused, as `ShortInput`, exactly where fewer
+    /// remain; the parser then stays.
     #[tactic(auto, using(crate::proofs::Ports::port_rules))]
     pub fn parse(parser: &mut Parser<'_>) -> Result<Port, ParseError>
-        ensures answer { Gives (λ port. record { value = values.Port port; len = 2 }) result (take_port (left parser.old)) }
-        ensures ok { OnOk result (parser.new ≡ record parser.old { pos = parser.old.pos + 2 }) }
-        ensures within { OnOk result (parser.old.pos + 2 ≤ parser.old.end) }
-        ensures err { OnErr result (parser.new ≡ parser.old) }
+        ensures answer { Gives (λ port. record { value = values.Port port; len = 2 }) result
+            (take_port (left parser.old)) }
+        ensures takes { TakesOctets parser.old parser.new 2 result }
     {
-        // the parser stands within its data
-        let _left = parser.peek_all();
-        Ok(Port(parser.parse_u16()?))
+        let octets = parser.parse_octets(2)?;
+        Ok(Port(u16::from_be_bytes([octets[0], octets[1]])))
     }
 }
 
@@ -76,22 +75,22 @@ impl<'a> ParseSvcParamValue<'a> for Port {
     ghost reads = { λ _. take_port };
 
     fn parse_value(key: SvcParamKey, parser: &mut Parser<'a>) -> Result<Option<Port>, ParseError> {
-        // the parser stands within its data
-        let _left = parser.peek_all();
         if key != SvcParamKey::PORT {
             return Ok(None);
         }
-        match Port::parse(parser) {
-            Ok(port) => Ok(Some(port)),
-            Err(error) => Err(error),
-        }
+        Ok(Some(Port::parse(parser)?))
     }
 }
 
 impl ComposeSvcParamValue for Port {
     ghost octets = { be2 };
 
-    fn compose_len(&self) -> u16 {
+    fn compose_len(&self) -> u16
+        ensures len { result ≡ length (be2 self.now) }
+        ensures value { values.IsValue (values.Port self.now) }
+    {
+        // the number has 16 bits
+        let _ = &self.0;
         2
     }
 

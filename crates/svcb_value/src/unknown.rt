@@ -1,13 +1,14 @@
 //! Values that are any octets.
 
 ghost use Rattle.std.specs.Prelude.{◌≡◌, ℕ, ◌+◌, ◌≤◌, ◌<◌, ◌++◌, Some, length, IfOk, OnOk, OnErr};
-ghost use Rattle.wire_spec.specs.Values as values;
-ghost use Rattle.wire_spec.specs.Params.{pair_wire};
-ghost use Rattle.wire_spec.specs.ReadingValues.{take_all, long_fault};
+ghost use Rattle.svcb_spec.specs.Values as values;
+ghost use Rattle.svcb_spec.specs.Params.{pair_wire};
+ghost use Rattle.svcb_spec.specs.ReadingValues.{taking_all, whole_value, long_fault};
 ghost use Rattle.wire_base.specs.Faults.{GivesCopy};
 ghost use Rattle.wire_base.specs.Input.{left};
+ghost use Rattle.wire_base.specs.Moving.{TakesAll, AppendsOctets, LacksRoom};
 ghost use Rattle.registry.specs.Reading.{behind};
-ghost use Rattle.svcb_value.specs.Parameters.{take_param};
+ghost use Rattle.svcb_value.specs.Parameters.{take_param, taking_param, param_len, param_wire};
 
 use crate::parameter::{compose_param, split_param};
 use crate::unknown_ref::UnknownSvcParamRef;
@@ -18,21 +19,22 @@ use wire_base::{NoMemory, Octets, ParseError, Parser};
 
 /// A service parameter whose value is any octets, at most 65,535. Any key is allowed, also one that has a type.
 /// Equality looks at key and octets.
-#[derive(Eq, Hash, Drop)]
+#[derive(Debug, PartialEq, Eq, Hash, Drop)]
 pub struct UnknownSvcParam {
-    key: SvcParamKey,
-    value: Octets,
+    pub(crate) key: SvcParamKey,
+    pub(crate) value: Octets,
 }
 
 impl Model for UnknownSvcParam {
     ghost use Rattle.std.specs.Prelude.{◌<◌, length};
-    ghost use Rattle.wire_spec.specs.Values as values;
+    ghost use Rattle.svcb_spec.specs.Values as values;
 
     ghost Value = { values.Value };
 
     ghost view = { λ param. values.Unknown param.key param.value };
 
-    ghost invariant = { λ param. record { key : param.key < 65536; octets : length param.value < 65536 } };
+    ghost invariant = { λ param.
+        record { in_range : param.key < 65536; fits : length param.value < 65536 } };
 
     ghost inverse = { λ value. record { key = values.key_of value; value = values.encode value } };
 }
@@ -42,7 +44,7 @@ impl UnknownSvcParam {
     ghost use Rattle.svcb_value.specs.UnknownView.{seen_unknown};
     ghost use Rattle.svcb_value.specs.Lending.{LendsOctets};
 
-    /// The value of a key. Refused exactly where it has over 65,535 octets; it is then dropped.
+    /// The value of a key. Refused, as `LongSvcParam`, exactly where it has more than 65,535 octets; it is then dropped.
     pub fn new(key: SvcParamKey, value: Octets) -> Result<UnknownSvcParam, LongSvcParam>
         ensures param { IfOk result (λ param. param ≡ values.Unknown key value) }
         ensures ok { OnOk result (length value ≤ 65535) }
@@ -52,14 +54,6 @@ impl UnknownSvcParam {
         Ok(UnknownSvcParam { key, value })
     }
 
-    /// The value of a key, of octets that are few enough.
-    pub(crate) fn with_few(key: SvcParamKey, value: Octets) -> UnknownSvcParam
-        requires few { length value < 65536 }
-        ensures { result ≡ values.Unknown key value }
-    {
-        UnknownSvcParam { key, value }
-    }
-
     /// All octets that remain, as the value of a key. Refused as `Form` exactly where more than 65,535 remain, else
     /// for want of memory alone; the parser then stays.
     pub fn parse(
@@ -67,9 +61,9 @@ impl UnknownSvcParam {
         key: SvcParamKey,
         parser: &mut Parser<'_>,
     ) -> Result<UnknownSvcParam, ParseError>
-        ensures answer { GivesCopy (λ param. record { value = param; len = length (values.encode param) }) result (take_all (long_fault (left parser.old)) (values.Unknown key (left parser.old)) (left parser.old)) }
-        ensures ok { OnOk result (parser.new ≡ record parser.old { pos = parser.old.end }) }
-        ensures err { OnErr result (parser.new ≡ parser.old) }
+        ensures answer { GivesCopy (taking_all (left parser.old)) result
+            (whole_value long_fault (values.Unknown key) (left parser.old)) }
+        ensures takes { TakesAll parser.old parser.new result }
     {
         let slice = parser.peek_all();
         LongSvcParam::check_len(slice.len())?;
@@ -84,11 +78,11 @@ impl UnknownSvcParam {
         alloc: Global,
         parser: &mut Parser<'_>,
     ) -> Result<UnknownSvcParam, ParseError>
-        ensures answer { GivesCopy (λ param. record { value = param; len = 4 + length (values.encode param) }) result (take_param (left parser.old)) }
-        ensures ok { IfOk result (λ param. parser.new ≡ behind parser.old (4 + length (values.encode param))) }
+        ensures answer { GivesCopy taking_param result (take_param (left parser.old)) }
+        ensures ok { IfOk result (λ param. parser.new ≡ behind parser.old (param_len param)) }
         ensures err { OnErr result (parser.new ≡ parser.old) }
     {
-        let (key, slice) = split_param(parser.peek_all())?;
+        let (key, slice, _) = split_param(parser.peek_all())?;
         let value = Octets::from_slice(alloc, slice)?;
         parser.advance(4 + slice.len())?;
         Ok(UnknownSvcParam {
@@ -100,16 +94,17 @@ impl UnknownSvcParam {
     /// Appends the parameter: its key, the length of its value, and the value. Refused for want of memory alone; the
     /// target then stays.
     pub fn compose_param(&self, target: &mut Vec<u8>) -> Result<(), NoMemory>
-        ensures ok { OnOk result (target.new.items ≡ target.old.items ++ pair_wire (values.key_of self.now) (Some (values.encode self.now))) }
-        ensures err { OnErr result (target.new.items ≡ target.old.items) }
+        ensures appends { AppendsOctets target.old.items target.new.items
+            (param_wire self.now) result }
+        ensures full { OnErr result (LacksRoom target.old (param_len self.now)) }
     {
-        compose_param(self.key, self.value.as_slice(), target)
+        compose_param(u16::from(self.key), self.value.as_slice(), target)
     }
 
     /// The key.
     pub fn key(&self) -> SvcParamKey
         ensures key { result ≡ values.key_of self.now }
-        ensures small { values.key_of self.now < 65536 }
+        ensures in_range { values.key_of self.now < 65536 }
     {
         self.key
     }
@@ -117,7 +112,7 @@ impl UnknownSvcParam {
     /// The octets.
     pub fn as_slice(&self) -> &[u8]
         ensures octets { result.now ≡ values.encode self.now }
-        ensures few { length (values.encode self.now) < 65536 }
+        ensures fits { length (values.encode self.now) < 65536 }
     {
         self.value.as_slice()
     }
@@ -147,7 +142,7 @@ impl UnknownSvcParam {
         }
     }
 
-    /// A copy.
+    /// A copy. Refused for want of memory alone.
     pub fn try_clone(&self, alloc: Global) -> Result<UnknownSvcParam, NoMemory>
         ensures { IfOk result (λ param. param ≡ self.now) }
     {
@@ -169,29 +164,15 @@ impl SvcParamValue for UnknownSvcParam {
 impl ComposeSvcParamValue for UnknownSvcParam {
     ghost octets = { values.encode };
 
-    fn compose_len(&self) -> u16 {
+    fn compose_len(&self) -> u16
+        ensures len { result ≡ length (values.encode self.now) }
+        ensures value { values.IsValue self.now }
+    {
         self.value.len() as u16
     }
 
     fn compose_value(&self, target: &mut Vec<u8>) -> Result<(), NoMemory> {
         target.extend_from_slice(self.value.as_slice())?;
         Ok(())
-    }
-}
-
-impl PartialEq for UnknownSvcParam {
-    ghost use Rattle.std.specs.Prelude.{◌==◌};
-    ghost use Rattle.std.specs.Ordering.{on, eq_of_both};
-    ghost use Rattle.std.specs.Cmp.Lexicographic.{pointwise};
-    ghost use Rattle.std.specs.Cmp.Rules.{comparing};
-    ghost use Rattle.std.proofs.Common.{rules};
-    ghost use Rattle.wire_spec.specs.Values.{key_of, encode};
-
-    ghost eq = { eq_of_both (on key_of ◌==◌) (on encode (pointwise ◌==◌)) };
-
-    ghost laws = { Prim.search (comparing, rules) };
-
-    fn eq(&self, other: &UnknownSvcParam) -> bool {
-        self.key == other.key && self.value == other.value
     }
 }

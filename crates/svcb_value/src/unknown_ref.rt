@@ -13,26 +13,28 @@ use wire_base::{NoMemory, Octets, ParseError, Parser};
 
 /// A view of a service parameter whose value is any octets, at most 65,535. Any key is allowed, also one that has a
 /// type. Equality looks at key and octets.
-#[derive(Clone, Copy, Eq, Hash)]
+#[derive(Clone, Copy, Debug, PartialEq, Eq, Hash)]
 pub struct UnknownSvcParamRef<'a> {
     pub(crate) key: u16,
     pub(crate) slice: &'a [u8],
-    ghost small: { key < 65536 },
-    ghost few: { length slice.now < 65536 },
+    ghost in_range: { key < 65536 },
+    ghost fits: { length slice.now < 65536 },
 }
 
 impl<'a> UnknownSvcParamRef<'a> {
     ghost use Rattle.std.specs.Prelude.{◌≡◌, ℕ, ◌+◌, ◌≤◌, ◌<◌, ◌++◌, Some, length, IfOk, OnOk, OnErr};
-    ghost use Rattle.wire_spec.specs.Values as values;
-    ghost use Rattle.wire_spec.specs.Params.{pair_wire};
-    ghost use Rattle.wire_spec.specs.ReadingValues.{take_all, long_fault};
+    ghost use Rattle.svcb_spec.specs.Values as values;
+    ghost use Rattle.svcb_spec.specs.Params.{pair_wire};
+    ghost use Rattle.svcb_spec.specs.ReadingValues.{taking_all, whole_value, long_fault};
     ghost use Rattle.wire_base.specs.Faults.{Gives};
     ghost use Rattle.wire_base.specs.Input.{left};
+    ghost use Rattle.wire_base.specs.Moving.{TakesAll, AppendsOctets, LacksRoom};
     ghost use Rattle.registry.specs.Reading.{behind};
-    ghost use Rattle.svcb_value.specs.Parameters.{take_param};
+    ghost use Rattle.svcb_value.specs.Parameters.{take_param, taking_param, param_len, param_wire};
     ghost use Rattle.svcb_value.specs.UnknownView.{seen_unknown};
 
-    /// The view of a key and octets. Refused exactly over 65,535 octets.
+    /// The view of a key and octets. Refused, as `LongSvcParam`, exactly over 65,535 octets. A view takes no memory, and
+    /// a push of it onto a builder takes none but that of the builder's own copy.
     pub fn new(key: SvcParamKey, slice: &'a [u8]) -> Result<UnknownSvcParamRef<'a>, LongSvcParam>
         ensures view { IfOk result (λ view. seen_unknown view ≡ values.Unknown key slice.now) }
         ensures ok { OnOk result (length slice.now ≤ 65535) }
@@ -51,9 +53,9 @@ impl<'a> UnknownSvcParamRef<'a> {
         key: SvcParamKey,
         parser: &mut Parser<'a>,
     ) -> Result<UnknownSvcParamRef<'a>, ParseError>
-        ensures answer { Gives (λ view. record { value = seen_unknown view; len = length (values.encode (seen_unknown view)) }) result (take_all (long_fault (left parser.old)) (values.Unknown key (left parser.old)) (left parser.old)) }
-        ensures ok { OnOk result (parser.new ≡ record parser.old { pos = parser.old.end }) }
-        ensures err { OnErr result (parser.new ≡ parser.old) }
+        ensures answer { Gives (λ view. taking_all (left parser.old) (seen_unknown view)) result
+            (whole_value long_fault (values.Unknown key) (left parser.old)) }
+        ensures takes { TakesAll parser.old parser.new result }
     {
         let view = UnknownSvcParamRef::new(key, parser.peek_all())?;
         parser.advance_to_end();
@@ -63,11 +65,13 @@ impl<'a> UnknownSvcParamRef<'a> {
     /// The parameter that comes next: its key, the length of its value, and the value. Refused as `ShortInput` exactly
     /// where one of them runs past the end; the parser then stays.
     pub fn parse_param(parser: &mut Parser<'a>) -> Result<UnknownSvcParamRef<'a>, ParseError>
-        ensures answer { Gives (λ view. record { value = seen_unknown view; len = 4 + length (values.encode (seen_unknown view)) }) result (take_param (left parser.old)) }
-        ensures ok { IfOk result (λ view. parser.new ≡ behind parser.old (4 + length (values.encode (seen_unknown view)))) }
+        ensures answer { Gives (λ view. taking_param (seen_unknown view)) result
+            (take_param (left parser.old)) }
+        ensures ok { IfOk result (λ view. parser.new
+            ≡ behind parser.old (param_len (seen_unknown view))) }
         ensures err { OnErr result (parser.new ≡ parser.old) }
     {
-        let (key, slice) = split_param(parser.peek_all())?;
+        let (key, slice, _) = split_param(parser.peek_all())?;
         parser.advance(4 + slice.len())?;
         Ok(UnknownSvcParamRef { key, slice })
     }
@@ -75,7 +79,7 @@ impl<'a> UnknownSvcParamRef<'a> {
     /// The key.
     pub fn key(&self) -> SvcParamKey
         ensures key { result ≡ values.key_of (seen_unknown self.now) }
-        ensures small { values.key_of (seen_unknown self.now) < 65536 }
+        ensures in_range { values.key_of (seen_unknown self.now) < 65536 }
     {
         SvcParamKey::from(self.key)
     }
@@ -83,7 +87,7 @@ impl<'a> UnknownSvcParamRef<'a> {
     /// The octets.
     pub fn as_slice(&self) -> &'a [u8]
         ensures octets { result.now ≡ values.encode (seen_unknown self.now) }
-        ensures few { length (values.encode (seen_unknown self.now)) < 65536 }
+        ensures fits { length (values.encode (seen_unknown self.now)) < 65536 }
     {
         self.slice
     }
@@ -91,23 +95,27 @@ impl<'a> UnknownSvcParamRef<'a> {
     /// Appends the parameter: its key, the length of its value, and the value. Refused for want of memory alone; the
     /// target then stays.
     pub fn compose_param(&self, target: &mut Vec<u8>) -> Result<(), NoMemory>
-        ensures ok { OnOk result (target.new.items ≡ target.old.items ++ pair_wire (values.key_of (seen_unknown self.now)) (Some (values.encode (seen_unknown self.now)))) }
-        ensures err { OnErr result (target.new.items ≡ target.old.items) }
+        ensures appends { AppendsOctets target.old.items target.new.items
+            (param_wire (seen_unknown self.now)) result }
+        ensures full { OnErr result (LacksRoom target.old (param_len (seen_unknown self.now))) }
     {
-        compose_param(self.key(), self.slice, target)
+        compose_param(self.key, self.slice, target)
     }
 
-    /// An owned copy.
+    /// An owned copy. Refused for want of memory alone.
     pub fn to_owned_data(&self, alloc: Global) -> Result<UnknownSvcParam, NoMemory>
         ensures { IfOk result (λ param. param ≡ seen_unknown self.now) }
     {
         let value = Octets::from_slice(alloc, self.slice)?;
-        Ok(UnknownSvcParam::with_few(self.key(), value))
+        Ok(UnknownSvcParam {
+            key: self.key(),
+            value,
+        })
     }
 }
 
 impl<'a> SvcParamValue for UnknownSvcParamRef<'a> {
-    ghost use Rattle.wire_spec.specs.Values as values;
+    ghost use Rattle.svcb_spec.specs.Values as values;
     ghost use Rattle.svcb_value.specs.UnknownView.{seen_unknown};
 
     ghost key_of = { λ view. values.key_of (seen_unknown view) };
@@ -119,8 +127,8 @@ impl<'a> SvcParamValue for UnknownSvcParamRef<'a> {
 
 impl<'a> ParseSvcParamValue<'a> for UnknownSvcParamRef<'a> {
     ghost use Rattle.std.specs.Prelude.{true};
-    ghost use Rattle.wire_spec.specs.Values as values;
-    ghost use Rattle.wire_spec.specs.ReadingValues.{take_all, long_fault};
+    ghost use Rattle.svcb_spec.specs.Values as values;
+    ghost use Rattle.svcb_spec.specs.ReadingValues.{whole_value, long_fault};
     ghost use Rattle.svcb_value.specs.UnknownView.{seen_unknown};
 
     ghost Seen = { values.Value };
@@ -129,51 +137,33 @@ impl<'a> ParseSvcParamValue<'a> for UnknownSvcParamRef<'a> {
 
     ghost takes = { λ _. true };
 
-    ghost reads = { λ key octets. take_all (long_fault octets) (values.Unknown key octets) octets };
+    ghost reads = { λ key. whole_value long_fault (values.Unknown key) };
 
     fn parse_value(
         key: SvcParamKey,
         parser: &mut Parser<'a>,
     ) -> Result<Option<UnknownSvcParamRef<'a>>, ParseError> {
-        // the parser stands within its data
-        let _left = parser.peek_all();
-        match UnknownSvcParamRef::parse(key, parser) {
-            Ok(view) => Ok(Some(view)),
-            Err(error) => Err(error),
-        }
+        let view = UnknownSvcParamRef::new(key, parser.peek_all())?;
+        parser.advance_to_end();
+        Ok(Some(view))
     }
 }
 
 impl<'a> ComposeSvcParamValue for UnknownSvcParamRef<'a> {
-    ghost use Rattle.wire_spec.specs.Values as values;
+    ghost use Rattle.svcb_spec.specs.Values as values;
     ghost use Rattle.svcb_value.specs.UnknownView.{seen_unknown};
 
     ghost octets = { λ view. values.encode (seen_unknown view) };
 
-    fn compose_len(&self) -> u16 {
+    fn compose_len(&self) -> u16
+        ensures len { result ≡ length (values.encode (seen_unknown self.now)) }
+        ensures value { values.IsValue (seen_unknown self.now) }
+    {
         self.slice.len() as u16
     }
 
     fn compose_value(&self, target: &mut Vec<u8>) -> Result<(), NoMemory> {
         target.extend_from_slice(self.slice)?;
         Ok(())
-    }
-}
-
-impl<'a> PartialEq for UnknownSvcParamRef<'a> {
-    ghost use Rattle.std.specs.Prelude.{◌==◌};
-    ghost use Rattle.std.specs.Ordering.{on, eq_of_both};
-    ghost use Rattle.std.specs.Cmp.Lexicographic.{pointwise};
-    ghost use Rattle.std.specs.Cmp.Rules.{comparing};
-    ghost use Rattle.std.proofs.Common.{rules};
-    ghost use Rattle.wire_spec.specs.Values.{key_of, encode};
-    ghost use Rattle.svcb_value.specs.UnknownView.{seen_unknown};
-
-    ghost eq = { eq_of_both (on (λ view. key_of (seen_unknown view)) ◌==◌) (on (λ view. encode (seen_unknown view)) (pointwise ◌==◌)) };
-
-    ghost laws = { Prim.search (comparing, rules) };
-
-    fn eq(&self, other: &UnknownSvcParamRef<'a>) -> bool {
-        self.key == other.key && self.slice == other.slice
     }
 }

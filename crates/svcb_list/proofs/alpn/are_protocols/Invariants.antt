@@ -1,5 +1,5 @@
 use Rattle.std.proofs.Common.{◌≡◌, length}
-use Rattle.wire_spec.specs.ReadingValues.{are_whole}
+use Rattle.svcb_spec.specs.ReadingValues.{are_whole}
 use Rattle.svcb_list.proofs.alpn.are_protocols.Given as goal
 
 abbrev pub invariant-loop-len : goal.invariant-loop-len

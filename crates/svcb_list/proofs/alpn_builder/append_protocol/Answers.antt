@@ -11,4 +11,4 @@ pub returns-clause-ok : goal.returns-clause-ok
 returns-clause-ok c = pushed_protocols _ _ c.args.protocol.now c.requires.are (written c)
 
 pub returns-clause-are : goal.returns-clause-are
-returns-clause-are c = pushed_are _ _ c.args.protocol.now c.requires.are (written c)
+returns-clause-are c = pushed_are _ _ c.args.protocol.now c.requires.are c.requires.room (written c)

@@ -1,12 +1,22 @@
 use Rattle.std.proofs.Common.{◌∙◌}
-use Rattle.wire_spec.specs.ReadingValues.{take_value, wholly}
-use Rattle.svcb_text.proofs.Wholes.{some_value, no_value}
+use Rattle.svcb_spec.specs.ReadingValues.{take_value, wholly}
+use Rattle.svcb_text.proofs.Wholes.{some_value, no_value, refused}
 use Rattle.svcb_text.proofs.all_values_ref.AllValuesRef.parse_any.Goals as goal
 
-pub returns-in-Some : goal.returns-in-Some
-returns-in-Some c = some_value c.args.key c.args.slice.now _ (wholly c.args.slice.now (take_value c.args.key c.args.slice.now)) c.in-Some.ensures
+pub returns-in-Ok-Some : goal.returns-in-Ok-Some
+returns-in-Ok-Some c =
+    let key = c.args.key in
+    let octets = c.args.slice.now in
+    some_value key octets _ (wholly octets (take_value key octets)) (rw c.in-Ok-Some.field-0-is at c.in-Ok-Some.ensures)
 
-pub returns-in-None : goal.returns-in-None
-returns-in-None c =
-    let view = rw c.unwrap.ensures at c.new.ensures.view in
-    view ∙ no_value c.args.key c.args.slice.now (wholly c.args.slice.now (take_value c.args.key c.args.slice.now)) c.in-None.ensures
+pub returns-in-Ok-None : goal.returns-in-Ok-None
+returns-in-Ok-None c =
+    let key = c.args.key in
+    let octets = c.args.slice.now in
+    (rw c.unwrap-unknown.ensures at c.new.ensures.view) ∙ no_value key octets (wholly octets (take_value key octets)) (rw c.in-Ok-None.field-0-is at c.in-Ok-None.ensures)
+
+pub returns-in-Err : goal.returns-in-Err
+returns-in-Err c =
+    let key = c.args.key in
+    let octets = c.args.slice.now in
+    (rw c.unwrap-unknown.ensures at c.new.ensures.view) ∙ refused key octets _ (wholly octets (take_value key octets)) c.in-Err.ensures

@@ -1,7 +1,7 @@
 use Rattle.std.proofs.Common.{◌≡◌, length, take}
 use Rattle.std.specs.List.{flat_map}
-use Rattle.wire_spec.specs.Values.{Each}
-use Rattle.svcb_list.proofs.fixed_item.compose_all.Given as goal
+use Rattle.svcb_spec.specs.Values.{Each}
+use Rattle.svcb_list.proofs.fixed_item.append_items.Given as goal
 
 abbrev pub invariant-loop-item : goal.invariant-loop-item
 invariant-loop-item g l = record {
