@@ -4,7 +4,7 @@ use Rattle.std.specs.Prelude.{◌==◌, nat_lt}
 use Rattle.std.proofs.Math.Seq.{drop-cons, take-suc}
 use Rattle.std.proofs.lemmas.Bool.Decides.{nat_tests}
 use Rattle.std.proofs.lemmas.List.Concat.{flat_map-append}
-use Rattle.wire_spec.specs.Values.{protocols_wire}
+use Rattle.svcb_spec.specs.Values.{protocols_wire}
 use Rattle.svcb_list.specs.Pushing.{IsProtocol}
 use Rattle.svcb_params.specs.ValueFaults.{alpn_fault_behind}
 
@@ -19,8 +19,8 @@ added_len protocols protocol =
 module _ (len : ℕ) (protocol : List ℕ) (others : List (List ℕ)) where
   pub fault_passed : IsProtocol (length protocol) → len + 1 + length protocol ≤ 65535 → alpn_fault_behind len (protocol ∷ others) ≡ alpn_fault_behind (len + 1 + length protocol) others
   fault_passed is fits =
-      let some : (length protocol == 0) ≡ false = grind (arith, nat_tests, is.some) in
-      let few : nat_lt 255 (length protocol) ≡ false = grind (arith, nat_tests, is.few) in
+      let some : (length protocol == 0) ≡ false = grind (arith, nat_tests, is.not_empty) in
+      let few : nat_lt 255 (length protocol) ≡ false = grind (arith, nat_tests, is.fits) in
       let within : nat_lt 65535 (len + 1 + length protocol) ≡ false = grind (arith, nat_tests) in
       rw (some, few, within) refl
 

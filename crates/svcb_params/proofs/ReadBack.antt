@@ -2,22 +2,22 @@
 use Rattle.std.proofs.Common.{◌≡◌, true, List, [], ◌∷◌, ◌++◌, Some, Result, Ok, Err, IsOk, ap, ◌∙◌}
 use Rattle.std.proofs.lemmas.Bool.{false≢true}
 use Rattle.std.specs.Result.{result_ok}
-use Rattle.wire_spec.specs.Octets.{Fault}
-use Rattle.wire_spec.specs.Params.{Pairs}
-use Rattle.wire_spec.specs.Values.{Value, Each, key_of, encode, IsValue, is_own_type}
-use Rattle.wire_spec.specs.ReadingValues.{take_value, wholly}
-use Rattle.wire_spec.proofs.RebuildLaws.{value_at-put}
-use Rattle.wire_spec.proofs.ValueLaws.{values_read_back}
+use Rattle.name_spec.specs.Octets.{Fault}
+use Rattle.svcb_spec.specs.Params.{Pairs}
+use Rattle.svcb_spec.specs.Values.{Value, Each, key_of, encode, IsValue, is_own_type}
+use Rattle.svcb_spec.specs.ReadingValues.{take_value, wholly}
+use Rattle.svcb_spec.proofs.RebuildLaws.{value_at-put}
+use Rattle.svcb_spec.proofs.ValueLaws.{values_read_back}
 use Rattle.wire_base.specs.declared.errors.ParseError.{ParseError}
-use Rattle.svcb_params.specs.Build.{Build}
+use Rattle.svcb_pairs.specs.BuilderState.{BuilderState}
 use Rattle.svcb_params.specs.Items.{with_item, all_items, typed_value, typed_at}
-use Rattle.svcb_params.specs.Pushing.{with_value}
+use Rattle.svcb_pairs.specs.Pushing.{with_value}
 
 -- what a builder has taken stands under its key
-pub pushed_is_read : (build : Build) (value : Value) → IsValue value → is_own_type value ≡ true
-    → typed_at (key_of value) (with_value build value).pairs ≡ Some value
-pushed_is_read build value is own =
-    ap (typed_value (key_of value)) (value_at-put build.pairs (key_of value) (encode value)) ∙ ap result_ok (values_read_back value is own)
+pub pushed_is_read : (builder : BuilderState) (value : Value) → IsValue value → is_own_type value ≡ true
+    → typed_at (key_of value) (with_value builder value).pairs ≡ Some value
+pushed_is_read builder value is own =
+    ap (typed_value (key_of value)) (value_at-put builder.pairs (key_of value) (encode value)) ∙ ap result_ok (values_read_back value is own)
 
 -- a value goes on to the items that follow
 with_item-append : {Seen : Type 0} (read : Result Seen Fault) (all front back : List (Result Seen ParseError)) → IsOk read → all ≡ front ++ back

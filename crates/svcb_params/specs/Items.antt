@@ -1,17 +1,13 @@
 -- The values of one type among service parameters.
-use Rattle.std.specs.Prelude.{ℕ, Bool, true, false, List, [], ◌∷◌, map, Option, None, Some, Result, Ok, Err, if◌then◌else◌}
+use Rattle.std.specs.Prelude.{◌≡◌, ◌==◌, ℕ, Bool, true, List, [], ◌∷◌, map, Option, None, Some, is_some, option_map, Result, Ok, Err, if◌then◌else◌}
 use Rattle.std.specs.Result.{result_ok}
-use Rattle.wire_spec.specs.Octets.{Fault, Short, Form}
-use Rattle.wire_spec.specs.Params.{Pairs, value_at}
-use Rattle.wire_spec.specs.Values as values
-use Rattle.wire_spec.specs.ReadingValues.{Taken, take_value, wholly}
+use Rattle.name_spec.specs.Octets.{Fault}
+use Rattle.svcb_spec.specs.Params.{Pairs, value_at}
+use Rattle.svcb_spec.specs.Values as values
+use Rattle.name_spec.specs.Taking.{Taken}
+use Rattle.svcb_spec.specs.ReadingValues.{take_value, wholly}
 use Rattle.wire_base.specs.declared.errors.ParseError.{ParseError}
-use Rattle.wire_base.specs.declared.errors.ParseError.TheVariants as errors
-
--- the error that answers a fault
-abbrev pub error_of : Fault → ParseError
-error_of Short = errors.ShortInput
-error_of Form = errors.Form
+use Rattle.svcb_text.specs.WholeValues.{error_of}
 
 -- a value in front of the items that follow it; nothing follows a fault
 abbrev pub with_item : {Seen : Type 0} → Result Seen Fault → List (Result Seen ParseError) → List (Result Seen ParseError)
@@ -36,14 +32,32 @@ first_value [] = None
 first_value (Ok value ∷ others) = Some value
 first_value (Err error ∷ others) = None
 
--- the value of a key's type that octets under the key wholly are, where there are octets
+-- the value that octets wholly are, where there are octets
+abbrev pub whole_value_in : {Seen : Type 0} → (List ℕ → Result (Taken Seen) Fault) → Option (List ℕ) → Option Seen
+whole_value_in reads None = None
+whole_value_in reads (Some octets) = result_ok (wholly octets (reads octets))
+
+-- the same of a value of a key's type
 abbrev pub typed_value : ℕ → Option (List ℕ) → Option values.Value
-typed_value key None = None
-typed_value key (Some octets) = result_ok (wholly octets (take_value key octets))
+typed_value key = whole_value_in (take_value key)
 
 -- the value of a key's type that stands under the key
 abbrev pub typed_at : ℕ → Pairs → Option values.Value
 typed_at key pairs = typed_value key (value_at pairs key)
+
+-- a value, as `seen` shows it, is the one of the key's type that stands under the key
+abbrev pub IsTypedAt : {V : Type 0} → ℕ → Pairs → Option V → (V → values.Value) → Type 0
+IsTypedAt key pairs result seen = option_map seen result ≡ typed_at key pairs
+
+-- a type takes one key alone
+abbrev pub TakesOnly : (ℕ → Bool) → ℕ → Type 0
+TakesOnly takes key = (other : ℕ) → takes other ≡ (other == key)
+
+-- A value is the first of its type. Where the type takes one key alone, it is the value that stands under that key.
+pub record IsFirst {V Seen : Type 0} (seen : V → Seen) (takes : ℕ → Bool) (reads : ℕ → List ℕ → Result (Taken Seen) Fault) (pairs : Pairs) (result : Option V) : Type 0 where
+  pub first : option_map seen result ≡ first_value (items takes reads pairs)
+  pub under_key : (key : ℕ) → TakesOnly takes key → option_map seen result ≡ whole_value_in (reads key) (value_at pairs key)
+  pub is_there : (key : ℕ) → TakesOnly takes key → is_some result ≡ is_some (whole_value_in (reads key) (value_at pairs key))
 
 -- all pairs in order, whatever their types
 abbrev pub raw_values : Pairs → List values.Value
@@ -53,15 +67,3 @@ raw_values = map (λ pair. values.Unknown pair.0 pair.1)
 abbrev pub seen_item : {V Seen : Type 0} → (V → Seen) → Result V ParseError → Result Seen ParseError
 seen_item seen (Ok value) = Ok (seen value)
 seen_item seen (Err error) = Err error
-
--- what the octets under a key wholly are; nothing where the key isn't taken
-abbrev pub read_wholly : {Seen : Type 0} → Bool → Result Seen Fault → Result (Option Seen) ParseError
-read_wholly false read = Ok None
-read_wholly true (Ok value) = Ok (Some value)
-read_wholly true (Err fault) = Err (error_of fault)
-
--- an answer of reading one pair, as contracts see it
-abbrev pub seen_answer : {V Seen : Type 0} → (V → Seen) → Result (Option V) ParseError → Result (Option Seen) ParseError
-seen_answer seen (Ok None) = Ok None
-seen_answer seen (Ok (Some value)) = Ok (Some (seen value))
-seen_answer seen (Err error) = Err error

@@ -1,13 +1,14 @@
 -- Laws of service parameters.
 use Rattle.std.specs.Prelude.{◌≡◌, ◌*◌, ◌<◌, ◌≤◌, ◌↔◌, ◌==◌, ◌++◌, ℕ, true, List, ◌∷◌, length, Some, Result, Ok, IsOk}
-use Rattle.wire_spec.specs.Octets.{Fault}
-use Rattle.wire_spec.specs.Params.{Pairs, wire, IsMap, pairs_wire}
-use Rattle.wire_spec.specs.Values.{Value, Each, key_of, encode, IsValue, is_own_type}
-use Rattle.wire_spec.specs.ReadingValues.{Taken, take_value, wholly}
-use Rattle.svcb_params.specs.Parameters.{read_pairs}
+use Rattle.name_spec.specs.Octets.{Fault}
+use Rattle.svcb_spec.specs.Params.{Pairs, wire, IsMap, pairs_wire}
+use Rattle.svcb_spec.specs.Values.{Value, Each, key_of, encode, IsValue, is_own_type}
+use Rattle.name_spec.specs.Taking.{Taken}
+use Rattle.svcb_spec.specs.ReadingValues.{take_value, wholly}
+use Rattle.svcb_pairs.specs.Parameters.{read_pairs}
 use Rattle.svcb_params.specs.Items.{items, all_items, first_value, typed_at}
-use Rattle.svcb_params.specs.Build.{Build}
-use Rattle.svcb_params.specs.Pushing.{with_value}
+use Rattle.svcb_pairs.specs.BuilderState.{BuilderState}
+use Rattle.svcb_pairs.specs.Pushing.{with_value}
 
 -- octets are read as pairs exactly where they are these pairs, joined, and the keys ascend strictly
 abbrev pub ParametersAreLists : Type 0
@@ -31,8 +32,8 @@ FirstUnderKey = (key : ℕ) (reads : ℕ → List ℕ → Result (Taken Value) F
 
 -- a value of its key's type that a builder has taken stands under its key
 abbrev pub PushedRead : Type 0
-PushedRead = (build : Build) (value : Value) → IsValue value → is_own_type value ≡ true
-    → typed_at (key_of value) (with_value build value).pairs ≡ Some value
+PushedRead = (builder : BuilderState) (value : Value) → IsValue value → is_own_type value ≡ true
+    → typed_at (key_of value) (with_value builder value).pairs ≡ Some value
 
 -- a value of its key's type is read among all values where each pair in front of it has a value
 abbrev pub AllReadThrough : Type 0

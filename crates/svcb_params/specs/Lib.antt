@@ -1,9 +1,6 @@
-pub mod Parameters
-pub mod ParameterLaws
+pub mod ParamsView
 pub mod Items
 pub mod Laws
-pub mod Build
-pub mod Pushing
 pub mod PushErrors
-pub mod Closures
 pub mod ValueFaults
+pub mod OverlayState

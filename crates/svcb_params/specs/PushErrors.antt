@@ -3,8 +3,8 @@ use Rattle.registry.specs.declared.errors.BuildValueError.{BuildValueError}
 use Rattle.registry.specs.declared.errors.BuildValueError.TheVariants as build
 use Rattle.svcb_list.specs.declared.errors.BuildAlpnError.{BuildAlpnError}
 use Rattle.svcb_list.specs.declared.errors.BuildAlpnError.TheVariants as build_alpn
-use Rattle.svcb_params.specs.declared.errors.PushError.{PushError}
-use Rattle.svcb_params.specs.declared.errors.PushError.TheVariants as push
+use Rattle.svcb_pairs.specs.declared.errors.PushError.{PushError}
+use Rattle.svcb_pairs.specs.declared.errors.PushError.TheVariants as push
 use Rattle.svcb_params.specs.declared.errors.PushValueError.{PushValueError}
 use Rattle.svcb_params.specs.declared.errors.PushValueError.TheVariants as value
 use Rattle.svcb_params.specs.declared.errors.PushAlpnError.{PushAlpnError}

@@ -1,7 +1,7 @@
 -- What the push of a value that is made of its items answers.
 use Rattle.std.specs.Prelude.{◌≡◌, ℕ, ◌+◌, ◌==◌, ◌||◌, nat_lt, List, [], ◌∷◌, length, Option, None, Some, Result, Ok, Err, if◌then◌else◌}
-use Rattle.wire_spec.specs.declared.Reply.{Reply}
-use Rattle.wire_spec.specs.declared.Reply.TheVariants as replies
+use Rattle.svcb_spec.specs.declared.Reply.{Reply}
+use Rattle.svcb_spec.specs.declared.Reply.TheVariants as replies
 use Rattle.svcb_list.specs.declared.errors.BuildAlpnError.{BuildAlpnError}
 use Rattle.svcb_list.specs.declared.errors.BuildAlpnError.TheVariants as build_errors
 use Rattle.svcb_params.specs.declared.errors.PushValueError.{PushValueError}
@@ -16,13 +16,13 @@ pub data ValueFault : Type 0 where
   Long : ValueFault
   InvalidName : ValueFault
 
--- the fault of a value of so many octets
-abbrev pub long_value : ℕ → Option ValueFault
-long_value len = if nat_lt 65535 len then Some Long else None
+-- the fault of a value of so many octets: it has more than 65,535
+abbrev pub len_fault : ℕ → Option ValueFault
+len_fault len = if nat_lt 65535 len then Some Long else None
 
--- the first fault of such a value that wants items
-abbrev pub empty_or_long_value : ℕ → Option ValueFault
-empty_or_long_value len = if len == 0 then Some NoItems else long_value len
+-- the first fault of groups whose value has so many octets: there is to be at least one group
+abbrev pub groups_len_fault : ℕ → Option ValueFault
+groups_len_fault len = if len == 0 then Some NoItems else len_fault len
 
 -- the first fault of protocols behind a value of so many octets; each stands behind an octet of length
 abbrev pub alpn_fault_behind : ℕ → List (List ℕ) → Option ValueFault
@@ -37,22 +37,22 @@ abbrev pub alpn_fault : List (List ℕ) → Option ValueFault
 alpn_fault = alpn_fault_behind 0
 
 -- the answer is the fault, or else the reply; want of memory may come where there is no fault
-abbrev pub IsValueAnswer : Result (Unit {0}) PushValueError → Option ValueFault → Reply → Type 0
-IsValueAnswer (Ok done) fault reply = (fault ≡ None) × (reply ≡ replies.Accepted)
-IsValueAnswer (Err value_errors.DuplicateKey) fault reply = (fault ≡ None) × (reply ≡ replies.DuplicateKey)
-IsValueAnswer (Err value_errors.ShortBuf) fault reply = (fault ≡ None) × (reply ≡ replies.ShortBuf)
-IsValueAnswer (Err value_errors.LongSvcParam) fault reply = fault ≡ Some Long
-IsValueAnswer (Err value_errors.EmptyValue) fault reply = fault ≡ Some NoItems
-IsValueAnswer (Err value_errors.NoMemory) fault reply = fault ≡ None
+abbrev pub IsPushValueAnswer : Result (Unit {0}) PushValueError → Option ValueFault → Reply → Type 0
+IsPushValueAnswer (Ok done) fault reply = (fault ≡ None) × (reply ≡ replies.Accepted)
+IsPushValueAnswer (Err value_errors.DuplicateKey) fault reply = (fault ≡ None) × (reply ≡ replies.DuplicateKey)
+IsPushValueAnswer (Err value_errors.ShortBuf) fault reply = (fault ≡ None) × (reply ≡ replies.ShortBuf)
+IsPushValueAnswer (Err value_errors.LongSvcParam) fault reply = fault ≡ Some Long
+IsPushValueAnswer (Err value_errors.EmptyValue) fault reply = fault ≡ Some NoItems
+IsPushValueAnswer (Err value_errors.NoMemory) fault reply = fault ≡ None
 
 -- the same for protocols; want of memory may come before a fault
-abbrev pub IsAlpnAnswer : Result (Unit {0}) PushAlpnError → Option ValueFault → Reply → Type 0
-IsAlpnAnswer (Ok done) fault reply = (fault ≡ None) × (reply ≡ replies.Accepted)
-IsAlpnAnswer (Err alpn_errors.DuplicateKey) fault reply = (fault ≡ None) × (reply ≡ replies.DuplicateKey)
-IsAlpnAnswer (Err alpn_errors.ShortBuf) fault reply = (fault ≡ None) × (reply ≡ replies.ShortBuf)
-IsAlpnAnswer (Err alpn_errors.LongSvcParam) fault reply = fault ≡ Some Long
-IsAlpnAnswer (Err alpn_errors.InvalidProtocol) fault reply = fault ≡ Some InvalidName
-IsAlpnAnswer (Err alpn_errors.NoMemory) fault reply = Unit {0}
+abbrev pub IsPushAlpnAnswer : Result (Unit {0}) PushAlpnError → Option ValueFault → Reply → Type 0
+IsPushAlpnAnswer (Ok done) fault reply = (fault ≡ None) × (reply ≡ replies.Accepted)
+IsPushAlpnAnswer (Err alpn_errors.DuplicateKey) fault reply = (fault ≡ None) × (reply ≡ replies.DuplicateKey)
+IsPushAlpnAnswer (Err alpn_errors.ShortBuf) fault reply = (fault ≡ None) × (reply ≡ replies.ShortBuf)
+IsPushAlpnAnswer (Err alpn_errors.LongSvcParam) fault reply = fault ≡ Some Long
+IsPushAlpnAnswer (Err alpn_errors.InvalidProtocol) fault reply = fault ≡ Some InvalidName
+IsPushAlpnAnswer (Err alpn_errors.NoMemory) fault reply = Unit {0}
 
 -- the value of protocols is made exactly where they have no fault, want of memory excepted
 abbrev pub IsAlpnBuilt : {X : Type 0} → Result X BuildAlpnError → Option ValueFault → Type 0

@@ -1,6 +1,6 @@
 //! The canonical order of service parameters.
 
-ghost use Rattle.wire_spec.specs.Params.{wire};
+ghost use Rattle.svcb_spec.specs.Params.{wire};
 
 use crate::params::SvcParams;
 use crate::params_ref::SvcParamsRef;

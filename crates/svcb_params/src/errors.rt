@@ -3,12 +3,12 @@
 ghost use Rattle.std.specs.Prelude.{◌≡◌};
 ghost use Rattle.registry.specs.declared.errors.BuildValueError.{BuildValueError};
 ghost use Rattle.svcb_params.specs.declared.errors.BufError.TheVariants as buf;
-ghost use Rattle.svcb_params.specs.declared.errors.PushError.TheVariants as errors;
 ghost use Rattle.svcb_params.specs.declared.errors.PushValueError.TheVariants as values;
 ghost use Rattle.svcb_params.specs.declared.errors.PushAlpnError.TheVariants as alpn;
 
 use registry::{BuildValueError, LongSvcParam, ShortBuf};
 use svcb_list::BuildAlpnError;
+use svcb_pairs::PushError;
 use thiserror::Error;
 use wire_base::NoMemory;
 
@@ -19,20 +19,6 @@ pub enum BufError {
     #[error("short buffer")]
     ShortBuf,
     /// The memory for the copy isn't there.
-    #[error("want of memory")]
-    NoMemory,
-}
-
-/// Why a value was not added.
-#[derive(Clone, Copy, Debug, PartialEq, Eq, Error)]
-pub enum PushError {
-    /// The key has a value already.
-    #[error("duplicate key")]
-    DuplicateKey,
-    /// With the value, the parameters would have more octets in wire form than the limit.
-    #[error("short buffer")]
-    ShortBuf,
-    /// The memory for the value isn't there.
     #[error("want of memory")]
     NoMemory,
 }
@@ -90,22 +76,6 @@ impl From<NoMemory> for BufError {
 
     fn from(_error: NoMemory) -> BufError {
         BufError::NoMemory
-    }
-}
-
-impl From<ShortBuf> for PushError {
-    ghost from_gives = { λ _ error. error ≡ errors.ShortBuf };
-
-    fn from(_error: ShortBuf) -> PushError {
-        PushError::ShortBuf
-    }
-}
-
-impl From<NoMemory> for PushError {
-    ghost from_gives = { λ _ error. error ≡ errors.NoMemory };
-
-    fn from(_error: NoMemory) -> PushError {
-        PushError::NoMemory
     }
 }
 

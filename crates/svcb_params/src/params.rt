@@ -1,13 +1,14 @@
 //! Owned service parameters.
 
-ghost use Rattle.std.specs.Prelude.{◌≡◌, ◌==◌, ◌++◌, None, [], Ok, length, option_map, MatchResult, IfOk, OnOk, OnErr};
-ghost use Rattle.wire_spec.specs.Params.{pairs_at, wire, IsMap};
+ghost use Rattle.std.specs.Prelude.{◌≡◌, ◌==◌, None, [], Ok, length, option_map, MatchResult, IfOk};
+ghost use Rattle.svcb_spec.specs.Params.{pairs_at, wire, IsMap};
 ghost use Rattle.wire_base.specs.Faults.{IsFaultOf, GivesCopy};
 ghost use Rattle.wire_base.specs.Input.{left};
-ghost use Rattle.svcb_params.specs.Parameters.{read_pairs, pairs_in, IsParameters};
+ghost use Rattle.wire_base.specs.Moving.{TakesAll, AppendsOctets};
+ghost use Rattle.svcb_pairs.specs.Parameters.{read_pairs, pairs_in, IsParameters};
+ghost use Rattle.svcb_params.specs.ParamsView.{seen_params};
 ghost use Rattle.svcb_params.specs.Items.{items, first_value};
 
-use crate::pairs::check;
 use crate::params_error::SvcParamsError;
 use crate::params_ref::SvcParamsRef;
 use crate::raw_iter::RawIter;
@@ -15,19 +16,20 @@ use crate::value_iter::{ValueIter, first_of};
 use registry::ParseSvcParamValue;
 use std::alloc::Global;
 use std::marker::Model;
+use svcb_pairs::check;
 use svcb_text::AllValuesRef;
 use wire_base::{NoMemory, Octets, ParseError, Parser};
 
-/// Service parameters in wire form, by ascending keys. Contracts see the map from keys to octets, as the list of its
-/// pairs by ascending keys. Parameters are compared by their octets.
-#[derive(PartialEq, Eq, PartialOrd, Ord, Hash, Drop)]
+/// Service parameters in wire form, by ascending keys (RFC 9460, section 2.2). Contracts see the map from keys to octets,
+/// as the list of its pairs by ascending keys. Parameters are compared by their octets.
+#[derive(Debug, PartialEq, Eq, PartialOrd, Ord, Hash, Drop)]
 pub struct SvcParams {
     octets: Octets,
 }
 
 impl Model for SvcParams {
-    ghost use Rattle.wire_spec.specs.Params.{Pairs, wire};
-    ghost use Rattle.svcb_params.specs.Parameters.{pairs_in, IsParameters};
+    ghost use Rattle.svcb_spec.specs.Params.{Pairs, wire};
+    ghost use Rattle.svcb_pairs.specs.Parameters.{pairs_in, IsParameters};
 
     ghost Value = { Pairs };
 
@@ -42,7 +44,7 @@ impl Model for SvcParams {
 
 impl SvcParams {
     /// The parameters that the octets are known to be.
-    pub(crate) fn of(octets: Octets) -> SvcParams
+    pub(crate) fn from_checked_octets(octets: Octets) -> SvcParams
         requires { IsParameters octets }
         ensures pairs { result ≡ pairs_in octets }
         ensures wire { wire result ≡ octets }
@@ -50,41 +52,42 @@ impl SvcParams {
         SvcParams { octets }
     }
 
-    /// No parameters. Takes no memory.
-    #[tactic(auto, using(crate::proofs::Reading::reading_rules))]
+    /// No parameters. No memory is taken.
+    #[tactic(auto, using(svcb_pairs::proofs::Reading::reading_rules))]
     pub fn empty(alloc: Global) -> SvcParams
         ensures { result ≡ [] }
     {
-        SvcParams::of(Octets::from_vec(Vec::new(alloc)))
+        SvcParams::from_checked_octets(Octets::from_vec(Vec::new(alloc)))
     }
 
-    /// The parameters that octets are, which are not copied. Refused by their first fault; any count of octets
-    /// is allowed. Refused octets are dropped.
+    /// The parameters that octets are, which are not copied; any count of octets is allowed. No memory is taken.
     ///
-    /// `ShortInput`: a key, a length or a value runs past the end. `Form`: a key is not above the one before it (RFC 9460,
-    /// section 2.2).
+    /// The first fault in reading order refuses them, and they are dropped. `ShortInput`: a key, a length or a value runs
+    /// past the end. `Form`: a key is not above the one before it (RFC 9460, section 2.2).
     pub fn from_octets(octets: Octets) -> Result<SvcParams, SvcParamsError>
-        ensures answer { MatchResult result (λ params. read_pairs octets ≡ Ok params) (λ error. IsFaultOf error.0 (read_pairs octets)) }
+        ensures answer { MatchResult result
+            (λ params. read_pairs octets ≡ Ok params)
+            (λ error. IsFaultOf error.0 (read_pairs octets)) }
         ensures wire { IfOk result (λ params. wire params ≡ octets) }
         ensures is_map { IfOk result IsMap }
     {
         check(octets.as_slice())?;
-        Ok(SvcParams::of(octets))
+        Ok(SvcParams::from_checked_octets(octets))
     }
 
-    /// The parameters that all octets before the end of the data are. Refused by their first fault, else for want of
-    /// memory alone; the parser then stays.
+    /// The parameters that all octets before the end of the data are, with octets of their own.
     ///
-    /// `ShortInput`: a key, a length or a value runs past the end. `Form`: a key is not above the one before it (RFC 9460,
-    /// section 2.2).
-    #[tactic(auto, using(crate::proofs::Reading::part_read))]
+    /// The first fault in reading order refuses them; the parser then stays. `ShortInput`: a key, a length or a value
+    /// runs past the end. `Form`: a key is not above the one before it (RFC 9460, section 2.2). `NoMemory`: the octets
+    /// have no fault, and the memory for the copy isn't there.
+    #[tactic(auto, using(svcb_pairs::proofs::Reading::part_read))]
     pub fn parse(alloc: Global, parser: &mut Parser<'_>) -> Result<SvcParams, ParseError>
         ensures answer { GivesCopy (λ params. params) result (read_pairs (left parser.old)) }
-        ensures in_message { GivesCopy (λ params. params) result (pairs_at parser.old.message parser.old.end parser.old.pos None) }
+        ensures in_message { GivesCopy (λ params. params) result
+            (pairs_at parser.old.message parser.old.end parser.old.pos None) }
         ensures wire { IfOk result (λ params. wire params ≡ left parser.old) }
         ensures is_map { IfOk result IsMap }
-        ensures ok { OnOk result (parser.new ≡ record parser.old { pos = parser.old.end }) }
-        ensures err { OnErr result (parser.new ≡ parser.old) }
+        ensures takes { TakesAll parser.old parser.new result }
     {
         let params = SvcParamsRef::from_slice(parser.peek_all())?.to_owned_data(alloc)?;
         parser.advance_to_end();
@@ -93,7 +96,7 @@ impl SvcParams {
 
     /// A view of the parameters.
     pub fn for_slice(&self) -> SvcParamsRef<'_>
-        ensures pairs { pairs_in result.slice.now ≡ self.now }
+        ensures pairs { seen_params result ≡ self.now }
         ensures octets { result.slice.now ≡ wire self.now }
         ensures is_map { IsMap self.now }
     {
@@ -132,46 +135,50 @@ impl SvcParams {
         self.for_slice().is_empty()
     }
 
-    /// The values of all types, by ascending keys: `iter` of values of any type. Takes no memory.
+    /// The values of all types, by ascending keys: [`iter`](Self::iter) of [`AllValuesRef`]. [`ValueIter`] says how to loop
+    /// over them. No memory is taken.
     pub fn iter_all(&self) -> ValueIter<'_, AllValuesRef<'_>>
         ensures { result ≡ self.now }
     {
-        ValueIter::over(self.for_slice())
+        ValueIter::new(self.for_slice())
     }
 
-    /// All parameters by ascending keys, each as a key and octets. Takes no memory.
+    /// All parameters by ascending keys, each as a key and octets. No memory is taken.
     pub fn iter_raw(&self) -> RawIter<'_>
         ensures { result ≡ self.now }
     {
-        RawIter::over(self.for_slice())
+        RawIter::new(self.for_slice())
     }
 
     /// The values of one type, by ascending keys: of each key that the type takes the value that its octets wholly are, or
-    /// the fault that they have. Ends after its first error. Takes no memory.
+    /// the fault that they have. Ends after its first error. [`ValueIter`] says how to loop over them. No memory is taken.
     pub fn iter<'s, V: ParseSvcParamValue<'s>>(&'s self) -> ValueIter<'s, V>
         ensures { result ≡ self.now }
     {
-        ValueIter::over(self.for_slice())
+        ValueIter::new(self.for_slice())
     }
 
-    /// The first item of `iter`. None where there is none, or it is an error.
+    /// The first item of `iter`. None where there is none, or it is an error. No memory is taken.
     pub fn first<'s, V: ParseSvcParamValue<'s>>(&'s self) -> Option<V>
         ensures { option_map V.seen result ≡ first_value (items V.takes V.reads self.now) }
     {
-        first_of(self.iter())
+        first_of(self.for_slice())
     }
 
-    /// A copy. Refused for want of memory alone.
+    /// A copy.
+    ///
+    /// `NoMemory`: the memory for it isn't there.
     pub fn try_clone(&self, alloc: Global) -> Result<SvcParams, NoMemory>
         ensures { IfOk result (λ params. params ≡ self.now) }
     {
         self.for_slice().to_owned_data(alloc)
     }
 
-    /// Appends the parameters in wire form. Refused for want of memory alone; the target then stays.
+    /// Appends the parameters in wire form.
+    ///
+    /// `NoMemory`: the memory for them isn't there. The target's octets then stay.
     pub fn compose(&self, target: &mut Vec<u8>) -> Result<(), NoMemory>
-        ensures ok { OnOk result (target.new.items ≡ target.old.items ++ wire self.now) }
-        ensures err { OnErr result (target.new.items ≡ target.old.items) }
+        ensures appends { AppendsOctets target.old.items target.new.items (wire self.now) result }
     {
         self.for_slice().compose(target)
     }

@@ -3,23 +3,23 @@
 ghost use Rattle.std.specs.Prelude.{◌≡◌};
 ghost use Rattle.std.specs.Iterator.{YieldsFirstBy, item_count};
 ghost use Rattle.svcb_value.specs.UnknownView.{seen_unknown};
-ghost use Rattle.svcb_params.specs.Parameters.{pairs_in};
+ghost use Rattle.svcb_params.specs.ParamsView.{seen_params};
 ghost use Rattle.svcb_params.specs.Items.{raw_values};
 
 use crate::params_ref::SvcParamsRef;
-use registry::{LongSvcParam, SvcParamKey};
+use registry::SvcParamKey;
 use std::marker::Model;
 use svcb_value::UnknownSvcParamRef;
 
 /// All parameters by ascending keys, each as a key and octets. Contracts see the pairs that are left.
-#[derive(Clone, Drop)]
+#[derive(Clone, Debug, Drop)]
 pub struct RawIter<'a> {
     rest: SvcParamsRef<'a>,
 }
 
 impl<'a> Model for RawIter<'a> {
-    ghost use Rattle.wire_spec.specs.Params.{Pairs};
-    ghost use Rattle.svcb_params.specs.Parameters.{pairs_in};
+    ghost use Rattle.svcb_spec.specs.Params.{Pairs};
+    ghost use Rattle.svcb_pairs.specs.Parameters.{pairs_in};
 
     ghost Value = { Pairs };
 
@@ -28,8 +28,8 @@ impl<'a> Model for RawIter<'a> {
 
 impl<'a> RawIter<'a> {
     /// The parameters of a view.
-    pub(crate) fn over(params: SvcParamsRef<'a>) -> RawIter<'a>
-        ensures { result ≡ pairs_in params.entry.slice.now }
+    pub(crate) fn new(params: SvcParamsRef<'a>) -> RawIter<'a>
+        ensures { result ≡ seen_params params.entry }
     {
         RawIter { rest: params }
     }
@@ -45,10 +45,7 @@ impl<'a> Iterator for RawIter<'a> {
     fn next(&mut self) -> Option<UnknownSvcParamRef<'a>> {
         let (key, octets, rest) = self.rest.split_first()?;
         self.rest = rest;
-        match UnknownSvcParamRef::new(SvcParamKey::from(key), octets) {
-            Ok(param) => Some(param),
-            // The length of a value has 16 bits, so nothing is refused.
-            Err(LongSvcParam) => None,
-        }
+        // the length of a value has 16 bits, so nothing is refused
+        UnknownSvcParamRef::new(SvcParamKey::from(key), octets).ok()
     }
 }

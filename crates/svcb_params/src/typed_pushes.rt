@@ -1,17 +1,18 @@
 //! Pushes of values by their items.
 
-ghost use Rattle.std.specs.Prelude.{◌≡◌, ◌*◌, length, IfOk, OnOk, OnErr};
-ghost use Rattle.wire_spec.specs.Values as values;
-ghost use Rattle.svcb_params.specs.Pushing.{reply_to_value, with_value, IsAnswer};
-ghost use Rattle.svcb_params.specs.ValueFaults.{long_value, empty_or_long_value, alpn_fault, IsValueAnswer, IsAlpnAnswer, IsAlpnBuilt};
+ghost use Rattle.std.specs.Prelude.{◌≡◌, ◌*◌, length, IfOk};
+ghost use Rattle.svcb_spec.specs.Values as values;
+ghost use Rattle.svcb_pairs.specs.Pushing.{PushesValue, IsPushAnswer};
+ghost use Rattle.svcb_params.specs.ValueFaults.{len_fault, groups_len_fault, alpn_fault, IsPushValueAnswer, IsPushAlpnAnswer, IsAlpnBuilt};
 
 use crate::builder::SvcParamsBuilder;
-use crate::errors::{PushAlpnError, PushError, PushValueError};
+use crate::errors::{PushAlpnError, PushValueError};
 use registry::{LongSvcParam, SvcParamKey};
 use std::alloc::Global;
 use svcb_list::{
     Alpn, AlpnBuilder, BuildAlpnError, Ipv4Hint, Ipv6Hint, Mandatory, TlsSupportedGroups,
 };
+use svcb_pairs::PushError;
 use svcb_value::{DohPath, Ech, NoDefaultAlpn, Ohttp, Port};
 use wire_base::{Ipv4Addr, Ipv6Addr, Octets};
 
@@ -30,129 +31,113 @@ fn alpn_of(alloc: Global, protocols: &[Octets]) -> Result<Alpn, BuildAlpnError>
 impl SvcParamsBuilder {
     /// Adds `no-default-alpn` (RFC 9460, section 7.1.1).
     ///
-    /// As `push`: `DuplicateKey`, `ShortBuf`, or want of memory; a refused push changes nothing.
+    /// Refused as [`push`](Self::push) is; the builder then stays.
     pub fn no_default_alpn(&mut self) -> Result<(), PushError>
-        ensures answer { IsAnswer result (reply_to_value self.old values.NoDefaultAlpn) }
-        ensures ok { OnOk result (self.new ≡ with_value self.old values.NoDefaultAlpn) }
-        ensures err { OnErr result (self.new ≡ self.old) }
+        ensures { PushesValue self.old self.new values.NoDefaultAlpn result (IsPushAnswer result) }
     {
         self.push(&NoDefaultAlpn)
     }
 
     /// Adds `port` (RFC 9460, section 7.2).
     ///
-    /// As `push`: `DuplicateKey`, `ShortBuf`, or want of memory; a refused push changes nothing.
+    /// Refused as [`push`](Self::push) is; the builder then stays.
     pub fn port(&mut self, port: u16) -> Result<(), PushError>
-        ensures answer { IsAnswer result (reply_to_value self.old (values.Port port)) }
-        ensures ok { OnOk result (self.new ≡ with_value self.old (values.Port port)) }
-        ensures err { OnErr result (self.new ≡ self.old) }
+        ensures { PushesValue self.old self.new (values.Port port) result (IsPushAnswer result) }
     {
         self.push(&Port::new(port))
     }
 
     /// Adds `ohttp` (RFC 9540, section 4).
     ///
-    /// As `push`: `DuplicateKey`, `ShortBuf`, or want of memory; a refused push changes nothing.
+    /// Refused as [`push`](Self::push) is; the builder then stays.
     pub fn ohttp(&mut self) -> Result<(), PushError>
-        ensures answer { IsAnswer result (reply_to_value self.old values.Ohttp) }
-        ensures ok { OnOk result (self.new ≡ with_value self.old values.Ohttp) }
-        ensures err { OnErr result (self.new ≡ self.old) }
+        ensures { PushesValue self.old self.new values.Ohttp result (IsPushAnswer result) }
     {
         self.push(&Ohttp)
     }
 
-    /// Adds `ech`, the octets of an ECHConfigList.
+    /// Adds `ech` (RFC 9460, section 14.3.2), the octets of an ECHConfigList.
     ///
-    /// `LongSvcParam`: it has more than 65,535 octets.
-    /// Then as `push`: `DuplicateKey`, `ShortBuf`, or want of memory; a refused push changes nothing.
+    /// `LongSvcParam`: it has more than 65,535 octets. Else refused as [`push`](Self::push) is. The builder then stays.
     pub fn ech(&mut self, ech: &[u8]) -> Result<(), PushValueError>
-        ensures answer { IsValueAnswer result (long_value (length ech.now)) (reply_to_value self.old (values.Ech ech.now)) }
-        ensures ok { OnOk result (self.new ≡ with_value self.old (values.Ech ech.now)) }
-        ensures err { OnErr result (self.new ≡ self.old) }
+        ensures { PushesValue self.old self.new (values.Ech ech.now) result
+            (IsPushValueAnswer result (len_fault (length ech.now))) }
     {
         LongSvcParam::check_len(ech.len())?;
         let octets = Octets::from_slice(self.alloc(), ech)?;
-        self.push_value(&Ech::from_octets(octets)?)
+        self.push(&Ech::from_octets(octets)?)?;
+        Ok(())
     }
 
     /// Adds `dohpath` (RFC 9461, section 5).
     ///
-    /// `LongSvcParam`: the template has more than 65,535 octets.
-    /// Then as `push`: `DuplicateKey`, `ShortBuf`, or want of memory; a refused push changes nothing.
+    /// `LongSvcParam`: the template has more than 65,535 octets. Else refused as [`push`](Self::push) is. The builder then
+    /// stays.
     pub fn dohpath(&mut self, template: &str) -> Result<(), PushValueError>
-        ensures answer { IsValueAnswer result (long_value (length template.now)) (reply_to_value self.old (values.DohPath template.now)) }
-        ensures ok { OnOk result (self.new ≡ with_value self.old (values.DohPath template.now)) }
-        ensures err { OnErr result (self.new ≡ self.old) }
+        ensures { PushesValue self.old self.new (values.DohPath template.now) result
+            (IsPushValueAnswer result (len_fault (length template.now))) }
     {
-        let value = DohPath::from_text(self.alloc(), template)?;
-        self.push_value(&value)
+        self.push(&DohPath::from_text(self.alloc(), template)?)?;
+        Ok(())
     }
 
-    /// Adds `mandatory` (RFC 9460, section 8).
+    /// Adds `mandatory` (RFC 9460, section 8), two octets a key.
     ///
-    /// `LongSvcParam`: there are more than 32,767 keys.
-    /// Then as `push`: `DuplicateKey`, `ShortBuf`, or want of memory; a refused push changes nothing.
+    /// `LongSvcParam`: there are more than 32,767 keys. Else refused as [`push`](Self::push) is. The builder then stays.
     pub fn mandatory(&mut self, keys: &[SvcParamKey]) -> Result<(), PushValueError>
-        ensures answer { IsValueAnswer result (long_value (length keys.now * 2)) (reply_to_value self.old (values.Mandatory keys.now)) }
-        ensures ok { OnOk result (self.new ≡ with_value self.old (values.Mandatory keys.now)) }
-        ensures err { OnErr result (self.new ≡ self.old) }
+        ensures { PushesValue self.old self.new (values.Mandatory keys.now) result
+            (IsPushValueAnswer result (len_fault (length keys.now * 2))) }
     {
-        let value = Mandatory::from_keys(self.alloc(), keys)?;
-        self.push_value(&value)
+        self.push(&Mandatory::from_keys(self.alloc(), keys)?)?;
+        Ok(())
     }
 
-    /// Adds `ipv4hint` (RFC 9460, section 7.3).
+    /// Adds `ipv4hint` (RFC 9460, section 7.3), four octets an address.
     ///
-    /// `LongSvcParam`: there are more than 16,383 addresses.
-    /// Then as `push`: `DuplicateKey`, `ShortBuf`, or want of memory; a refused push changes nothing.
+    /// `LongSvcParam`: there are more than 16,383 addresses. Else refused as [`push`](Self::push) is. The builder then
+    /// stays.
     pub fn ipv4hint(&mut self, addrs: &[Ipv4Addr]) -> Result<(), PushValueError>
-        ensures answer { IsValueAnswer result (long_value (length addrs.now * 4)) (reply_to_value self.old (values.Ipv4Hint addrs.now)) }
-        ensures ok { OnOk result (self.new ≡ with_value self.old (values.Ipv4Hint addrs.now)) }
-        ensures err { OnErr result (self.new ≡ self.old) }
+        ensures { PushesValue self.old self.new (values.Ipv4Hint addrs.now) result
+            (IsPushValueAnswer result (len_fault (length addrs.now * 4))) }
     {
-        let value = Ipv4Hint::from_addrs(self.alloc(), addrs)?;
-        self.push_value(&value)
+        self.push(&Ipv4Hint::from_addrs(self.alloc(), addrs)?)?;
+        Ok(())
     }
 
-    /// Adds `ipv6hint` (RFC 9460, section 7.3).
+    /// Adds `ipv6hint` (RFC 9460, section 7.3), 16 octets an address.
     ///
-    /// `LongSvcParam`: there are more than 4,095 addresses.
-    /// Then as `push`: `DuplicateKey`, `ShortBuf`, or want of memory; a refused push changes nothing.
+    /// `LongSvcParam`: there are more than 4,095 addresses. Else refused as [`push`](Self::push) is. The builder then
+    /// stays.
     pub fn ipv6hint(&mut self, addrs: &[Ipv6Addr]) -> Result<(), PushValueError>
-        ensures answer { IsValueAnswer result (long_value (length addrs.now * 16)) (reply_to_value self.old (values.Ipv6Hint addrs.now)) }
-        ensures ok { OnOk result (self.new ≡ with_value self.old (values.Ipv6Hint addrs.now)) }
-        ensures err { OnErr result (self.new ≡ self.old) }
+        ensures { PushesValue self.old self.new (values.Ipv6Hint addrs.now) result
+            (IsPushValueAnswer result (len_fault (length addrs.now * 16))) }
     {
-        let value = Ipv6Hint::from_addrs(self.alloc(), addrs)?;
-        self.push_value(&value)
+        self.push(&Ipv6Hint::from_addrs(self.alloc(), addrs)?)?;
+        Ok(())
     }
 
-    /// Adds `tls-supported-groups`.
+    /// Adds `tls-supported-groups`, two octets a group.
     ///
-    /// `EmptyValue`: there are no groups. `LongSvcParam`: there are more than 32,767.
-    /// Then as `push`: `DuplicateKey`, `ShortBuf`, or want of memory; a refused push changes nothing.
+    /// `EmptyValue`: there are no groups. `LongSvcParam`: there are more than 32,767. Else refused as [`push`](Self::push)
+    /// is. The builder then stays.
     pub fn tls_supported_groups(&mut self, groups: &[u16]) -> Result<(), PushValueError>
-        ensures answer { IsValueAnswer result (empty_or_long_value (length groups.now * 2)) (reply_to_value self.old (values.TlsSupportedGroups groups.now)) }
-        ensures ok { OnOk result (self.new ≡ with_value self.old (values.TlsSupportedGroups groups.now)) }
-        ensures err { OnErr result (self.new ≡ self.old) }
+        ensures { PushesValue self.old self.new (values.TlsSupportedGroups groups.now) result
+            (IsPushValueAnswer result (groups_len_fault (length groups.now * 2))) }
     {
-        let value = TlsSupportedGroups::from_keys(self.alloc(), groups)?;
-        self.push_value(&value)
+        self.push(&TlsSupportedGroups::from_keys(self.alloc(), groups)?)?;
+        Ok(())
     }
 
     /// Adds `alpn` (RFC 9460, section 7.1), whose value is empty where there are no protocols.
     ///
-    /// The first fault of the protocols in their order refuses them. `InvalidProtocol`: a name has no octets or more than
-    /// 255. `LongSvcParam`: with this protocol the value would have more than 65,535 octets. Want of memory may come before
-    /// a fault.
-    /// Then as `push`: `DuplicateKey`, `ShortBuf`, or want of memory; a refused push changes nothing.
+    /// The first fault of the protocols in their order refuses them; want of memory may come before it.
+    /// `InvalidProtocol`: a name has no octets or more than 255. `LongSvcParam`: with this protocol and its octet of length
+    /// the value would have more than 65,535 octets. Else refused as [`push`](Self::push) is. The builder then stays.
     pub fn alpn(&mut self, protocols: &[Octets]) -> Result<(), PushAlpnError>
-        ensures answer { IsAlpnAnswer result (alpn_fault protocols.now) (reply_to_value self.old (values.Alpn protocols.now)) }
-        ensures ok { OnOk result (self.new ≡ with_value self.old (values.Alpn protocols.now)) }
-        ensures err { OnErr result (self.new ≡ self.old) }
+        ensures { PushesValue self.old self.new (values.Alpn protocols.now) result
+            (IsPushAlpnAnswer result (alpn_fault protocols.now)) }
     {
-        let value = alpn_of(self.alloc(), protocols)?;
-        self.push(&value)?;
+        self.push(&alpn_of(self.alloc(), protocols)?)?;
         Ok(())
     }
 }

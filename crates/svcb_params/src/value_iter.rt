@@ -1,43 +1,47 @@
 //! The values of one type among service parameters.
 
-ghost use Rattle.std.specs.Prelude.{◌≡◌, option_map};
+ghost use Rattle.std.specs.Prelude.{◌≡◌};
 ghost use Rattle.std.specs.Iterator.{YieldsFirstBy, item_count};
-ghost use Rattle.wire_spec.specs.ReadingValues.{wholly};
-ghost use Rattle.svcb_params.specs.Parameters.{pairs_in};
-ghost use Rattle.svcb_params.specs.Items.{items, first_value, seen_item, seen_answer, read_wholly};
+ghost use Rattle.svcb_params.specs.ParamsView.{seen_params};
+ghost use Rattle.svcb_params.specs.Items.{items, IsFirst, seen_item};
 
 use crate::params_ref::SvcParamsRef;
 use registry::{ParseSvcParamValue, SvcParamKey};
 use std::marker::{Model, PhantomData};
-use wire_base::{ParseError, Parser};
-
-/// What the octets under a key wholly are. None exactly where the type does not take the key.
-fn value_of_pair<'s, V: ParseSvcParamValue<'s>>(
-    key: u16,
-    octets: &'s [u8],
-) -> Result<Option<V>, ParseError>
-    ensures { seen_answer V.seen result ≡ read_wholly (V.takes key) (wholly octets.now (V.reads key octets.now)) }
-{
-    let mut parser = Parser::from_ref(octets);
-    match V::parse_value(SvcParamKey::from(key), &mut parser)? {
-        Some(value) if parser.remaining() == 0 => Ok(Some(value)),
-        Some(_) => Err(ParseError::Form),
-        None => Ok(None),
-    }
-}
+use svcb_text::parse_wholly;
+use wire_base::ParseError;
 
 /// The values of one type, by ascending keys: the octets under each key that the type takes are to be wholly a value.
-/// Ends after its first error. Contracts see the pairs that are left.
+/// Ends after its first error. No memory is taken. Contracts see the pairs that are left.
+///
+/// An item is taken apart by `match &item`, by `Ok(value) => match value`, by `let Ok(value) = item else`, or by
+/// `while let Some(Ok(value)) = values.next()`:
+///
+/// ```
+/// for item in params.iter_all() {
+///     let Ok(value) = item else {
+///         return None;
+///     };
+///     if let AllValuesRef::Port(port) = value {
+///         return Some(port.port());
+///     }
+/// }
+/// ```
+///
+/// These forms get a proof; `item?`, and a pattern such as `Ok(AllValuesRef::Port(port))` on the item itself, do not. An
+/// iterator of a view lasts as long as the view, so bind what `params()` of record data gives first:
+/// `let params = record.params();`. Count the items by `saturating_add` in a loop, since `count()` asks its caller for a
+/// bound.
 #[derive(Drop)]
-#[derive_where(Clone)]
+#[derive_where(Clone, Debug)]
 pub struct ValueIter<'s, V> {
     rest: SvcParamsRef<'s>,
     values: PhantomData<V>,
 }
 
 impl<'s, V> Model for ValueIter<'s, V> {
-    ghost use Rattle.wire_spec.specs.Params.{Pairs};
-    ghost use Rattle.svcb_params.specs.Parameters.{pairs_in};
+    ghost use Rattle.svcb_spec.specs.Params.{Pairs};
+    ghost use Rattle.svcb_pairs.specs.Parameters.{pairs_in};
 
     ghost Value = { Pairs };
 
@@ -46,8 +50,8 @@ impl<'s, V> Model for ValueIter<'s, V> {
 
 impl<'s, V> ValueIter<'s, V> {
     /// The values in parameters.
-    pub(crate) fn over(params: SvcParamsRef<'s>) -> ValueIter<'s, V>
-        ensures { result ≡ pairs_in params.entry.slice.now }
+    pub(crate) fn new(params: SvcParamsRef<'s>) -> ValueIter<'s, V>
+        ensures { result ≡ seen_params params.entry }
     {
         ValueIter {
             rest: params,
@@ -63,14 +67,15 @@ impl<'s, V: ParseSvcParamValue<'s>> Iterator for ValueIter<'s, V> {
 
     ghost remaining = { item_count (items V.takes V.reads) };
 
+    #[tactic(auto, using(svcb_pairs::proofs::Reading::reading_rules))]
     fn next(&mut self) -> Option<Result<V, ParseError>> {
         while let Some((key, octets, rest)) = self.rest.split_first() {
             self.rest = rest;
-            match value_of_pair(key, octets) {
+            match parse_wholly(SvcParamKey::from(key), octets) {
                 Ok(None) => {}
                 Ok(Some(value)) => return Some(Ok(value)),
                 Err(error) => {
-                    self.rest = SvcParamsRef::empty();
+                    self.rest = SvcParamsRef { slice: &[] };
                     return Some(Err(error));
                 }
             }
@@ -79,11 +84,11 @@ impl<'s, V: ParseSvcParamValue<'s>> Iterator for ValueIter<'s, V> {
     }
 }
 
-/// The first item, where it is a value.
-pub(crate) fn first_of<'s, V: ParseSvcParamValue<'s>>(mut values: ValueIter<'s, V>) -> Option<V>
-    ensures { option_map V.seen result ≡ first_value (items V.takes V.reads values.entry) }
+/// The first value of a type, where the first item is one.
+pub(crate) fn first_of<'s, V: ParseSvcParamValue<'s>>(params: SvcParamsRef<'s>) -> Option<V>
+    ensures { IsFirst V.seen V.takes V.reads (seen_params params.entry) result }
 {
-    match values.next() {
+    match ValueIter::new(params).next() {
         Some(Ok(value)) => Some(value),
         _ => None,
     }

@@ -1,7 +1,7 @@
 use Rattle.std.proofs.Common.{sym, ap, ◌∙◌}
-use Rattle.wire_spec.specs.Params.{wire}
-use Rattle.wire_spec.proofs.WireLaws.{wire-pairs}
-use Rattle.svcb_params.proofs.Reading.{pairs_in-back}
+use Rattle.svcb_spec.specs.Params.{wire}
+use Rattle.svcb_spec.proofs.WireLaws.{wire-pairs}
+use Rattle.svcb_pairs.proofs.Reading.{pairs_in-back}
 use Rattle.svcb_params.proofs.laws.equal_by_octets.Goals as goal
 
 pub returns : goal.returns

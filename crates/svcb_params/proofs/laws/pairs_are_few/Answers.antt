@@ -1,6 +1,6 @@
 use Rattle.std.proofs.Common.{◌*◌, ◌≤◌, length, sym, subst}
-use Rattle.wire_spec.proofs.WireLaws.{wire-pairs}
-use Rattle.svcb_params.proofs.FirstPair.{few_pairs}
+use Rattle.svcb_spec.proofs.WireLaws.{wire-pairs}
+use Rattle.svcb_pairs.proofs.FirstPair.{few_pairs}
 use Rattle.svcb_params.proofs.laws.pairs_are_few.Goals as goal
 
 pub returns : goal.returns

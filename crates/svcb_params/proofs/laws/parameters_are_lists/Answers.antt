@@ -1,8 +1,8 @@
 use Rattle.std.proofs.Common.{sym, ◌∙◌}
-use Rattle.wire_spec.proofs.ItemLaws.{small_octets}
-use Rattle.wire_spec.proofs.PairsBack.{wire-pairs_at}
-use Rattle.wire_spec.proofs.WireLaws.{wire-pairs}
-use Rattle.svcb_params.proofs.Reading.{read_pairs-back}
+use Rattle.svcb_spec.proofs.ItemLaws.{small_octets}
+use Rattle.svcb_spec.proofs.PairsBack.{wire-pairs_at}
+use Rattle.svcb_spec.proofs.WireLaws.{wire-pairs}
+use Rattle.svcb_pairs.proofs.Reading.{read_pairs-back}
 use Rattle.svcb_params.proofs.laws.parameters_are_lists.Goals as goal
 
 pub returns : goal.returns

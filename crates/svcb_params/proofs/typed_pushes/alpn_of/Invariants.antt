@@ -1,5 +1,5 @@
 use Rattle.std.proofs.Common.{◌≡◌, drop, take, length}
-use Rattle.wire_spec.specs.Values.{protocols_wire}
+use Rattle.svcb_spec.specs.Values.{protocols_wire}
 use Rattle.svcb_params.specs.ValueFaults.{alpn_fault, alpn_fault_behind}
 use Rattle.svcb_params.proofs.typed_pushes.alpn_of.Given as goal
 

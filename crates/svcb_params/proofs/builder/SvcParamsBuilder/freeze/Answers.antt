@@ -1,25 +1,18 @@
-use Rattle.std.proofs.Common.{◌++◌, sym, ap, ◌∙◌, arith}
-use Rattle.wire_spec.specs.Params.{pairs_wire}
-use Rattle.wire_spec.proofs.WireLaws.{wire-pairs}
-use Rattle.svcb_params.specs.Build.{Build}
-use Rattle.svcb_params.proofs.Written.{is_written, written_pairs}
+use Rattle.std.proofs.Common.{[], ◌++◌, ap, ◌∙◌}
+use Rattle.svcb_spec.specs.Params.{wire}
+use Rattle.svcb_pairs.specs.BuilderState.{BuilderState}
+use Rattle.svcb_pairs.specs.SpannedView.{builder_state}
+use Rattle.svcb_pairs.proofs.Written.{is_written, written_pairs}
 use Rattle.svcb_params.proofs.builder.SvcParamsBuilder.freeze.Goals as goal
 
-pub put_pairs-requires-clause-room : goal.put_pairs-requires-clause-room
-put_pairs-requires-clause-room c =
-    let in_order = wire-pairs c.self.inside.values.entries c.self.invariant.is_map in
-    rw (← in_order) (omega (arith, c.self.invariant.len_is, c.in_ok-octets.ensures.capacity, c.in_ok-octets.ensures.len))
-
-pub of-requires : goal.of-requires
-of-requires c =
-    let pairs = c.self.inside.values.entries in
-    let is_map = c.self.invariant.is_map in
-    is_written pairs _ is_map (c.from_vec.ensures ∙ c.put_pairs.ensures ∙ ap (λ front. front ++ pairs_wire pairs) c.in_ok-octets.ensures.items ∙ sym (wire-pairs pairs is_map))
+pub from_checked_octets-requires : goal.from_checked_octets-requires
+from_checked_octets-requires c =
+    let pairs = (builder_state [] c.self.inside.pairs).pairs in
+    is_written pairs _ c.self.invariant.builder.is_map (c.from_vec.ensures ∙ c.in_ok-compose.ensures.appends.ok ∙ ap (λ front. front ++ wire pairs) c.in_ok-octets.ensures.items)
 
 pub returns : goal.returns
 returns c =
-    let pairs = c.self.inside.values.entries in
-    let is_map = c.self.invariant.is_map in
-    c.of.ensures.pairs
-    ∙ written_pairs pairs _ is_map (c.from_vec.ensures ∙ c.put_pairs.ensures ∙ ap (λ front. front ++ pairs_wire pairs) c.in_ok-octets.ensures.items ∙ sym (wire-pairs pairs is_map))
-    ∙ ap (λ (build : Build). build.pairs) c.self.view_is
+    let pairs = (builder_state [] c.self.inside.pairs).pairs in
+    c.from_checked_octets.ensures.pairs
+    ∙ written_pairs pairs _ c.self.invariant.builder.is_map (c.from_vec.ensures ∙ c.in_ok-compose.ensures.appends.ok ∙ ap (λ front. front ++ wire pairs) c.in_ok-octets.ensures.items)
+    ∙ ap (λ (builder : BuilderState). builder.pairs) c.self.view_is

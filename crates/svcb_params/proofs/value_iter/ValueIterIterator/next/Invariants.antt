@@ -1,5 +1,5 @@
 use Rattle.std.proofs.Common.{◌≡◌, length}
-use Rattle.svcb_params.specs.Parameters.{pairs_in}
+use Rattle.svcb_pairs.specs.Parameters.{pairs_in}
 use Rattle.svcb_params.specs.Items.{items}
 use Rattle.svcb_params.proofs.value_iter.ValueIterIterator.next.Given as goal
 

@@ -1,0 +1,6 @@
+pub mod Parameters
+pub mod ParameterLaws
+pub mod BuilderState
+pub mod Pushing
+pub mod Spans
+pub mod SpannedView
