@@ -1,4 +1,4 @@
 pub mod Pushes
 pub mod Records
 pub mod ReaderLaws
-pub mod Values
+pub mod Refusals

@@ -1,16 +1,16 @@
 -- What readers find in record data that was rebuilt.
 use Rattle.std.proofs.Common.{◌≡◌, ℕ, List, [], ◌∷◌, length, Ok, sym, ap, ◌∙◌}
-use Rattle.wire_spec.specs.Records.{Record, read}
+use Rattle.svcb_spec.specs.Records.{Record, read}
 use Rattle.std.specs.Result.{result_ok}
-use Rattle.wire_spec.specs.declared.Reply.{Reply}
-use Rattle.wire_spec.specs.Params.{Pairs}
-use Rattle.wire_spec.specs.Values.{Value, key_of, AreValues}
-use Rattle.wire_spec.specs.Rebuilding.{accept, accepted, AreHeld}
+use Rattle.svcb_spec.specs.declared.Reply.{Reply}
+use Rattle.svcb_spec.specs.Params.{Pairs}
+use Rattle.svcb_spec.specs.Values.{Value, key_of, AreValues}
+use Rattle.svcb_spec.specs.Rebuilding.{accept, accepted, AreHeld}
 use Rattle.wire_base.specs.Faults.{IsFaultOf}
 use Rattle.wire_base.specs.declared.errors.ParseError.{ParseError}
 use Rattle.wire_base.specs.declared.errors.ParseError.TheVariants.{ShortInput, Form, NoMemory}
-use Rattle.wire_spec.proofs.ValueLaws.{values_read_back}
-use Rattle.wire_spec.proofs.RebuildLaws.{accept-holds, rebuilt_read_back}
+use Rattle.svcb_spec.proofs.ValueLaws.{values_read_back}
+use Rattle.svcb_spec.proofs.RebuildLaws.{accept-holds, rebuilt_read_back}
 use Rattle.svcb_params.specs.Items.{typed_value}
 use Rattle.svcb_rdata.specs.Laws.{AreRead, AreRebuilt}
 
@@ -26,16 +26,17 @@ accepted_are_read pairs limit values are = held_are_read _ values _ are (accept-
 
 module _ (octets : List ℕ) (pairs : Pairs) (are : AreRebuilt octets pairs) where
   abbrev final : Record
-  final = accepted are.5 are.3 are.4
+  final = accepted are.found are.values are.limit
 
   read_back : read octets 0 (length octets) ≡ Ok final
-  read_back = rebuilt_read_back are.0 are.1 are.2 are.3 are.4 are.5 (record { octets = octets; replies = are.6 }) are.7
+  read_back =
+      rebuilt_read_back are.message are.start are.len are.values are.limit are.found (record { octets = octets; replies = are.replies }) are.rebuilding
 
   -- the pairs that are read are the final ones
   pub pairs_read : (found : Record) → read octets 0 (length octets) ≡ Ok found → found.pairs ≡ pairs
   pairs_read found is =
       let same : found ≡ final = (let back = read_back in cc) in
-      ap (λ (f : Record). f.pairs) same ∙ sym are.8
+      ap (λ (f : Record). f.pairs) same ∙ sym are.pairs_are
 
   -- and there is no fault
   pub no_fault_read : (error : ParseError) → IsFaultOf error (read octets 0 (length octets)) → ⊥

@@ -1,8 +1,9 @@
 -- Records that are read and made.
 use Rattle.std.proofs.Common.{◌≡◌, ℕ, ◌+◌, ◌-◌, ◌<◌, List, length, arith, ap, length-append}
-use Rattle.wire_spec.specs.Names.{name_wire, AreLabels}
-use Rattle.wire_spec.specs.Params.{Pairs, wire, IsMap}
-use Rattle.wire_spec.specs.Records.{rdata, IsRecord, read}
+use Rattle.std.proofs.lemmas.Bool.Decides.{nat_tests}
+use Rattle.name_spec.specs.Names.{name_wire, AreLabels}
+use Rattle.svcb_spec.specs.Params.{Pairs, wire, IsMap}
+use Rattle.svcb_spec.specs.Records.{rdata, IsRecord, read}
 
 -- parts of so many octets are a record's
 pub is_record : (priority : ℕ) (labels : List (List ℕ)) (pairs : Pairs) → priority < 65536 → AreLabels 0 labels → IsMap pairs
@@ -11,13 +12,13 @@ is_record priority labels pairs small are is_map few = record {
   priority = small;
   labels = are;
   is_map = is_map;
-  few = omega (arith, few, length-append (name_wire labels) (wire pairs));
+  fits = omega (arith, few, length-append (name_wire labels) (wire pairs));
 }
 
 pub length_rdata : (priority : ℕ) (labels : List (List ℕ)) (pairs : Pairs) → length (rdata priority labels pairs) ≡ 2 + length (name_wire labels) + length (wire pairs)
 length_rdata priority labels pairs = omega (arith, length-append (name_wire labels) (wire pairs))
 
-pub ruleset record_rules = (is_record, length_rdata)
+pub ruleset reading_rules = (is_record, length_rdata, nat_tests)
 
 -- record data that is read to an end is that of so many octets
 pub read_here : (message : List ℕ) (start len : ℕ) → read message start (start + len - start) ≡ read message start len

@@ -1,17 +1,18 @@
 -- How record data is compared, and the laws of these comparisons.
-use Rattle.std.proofs.Common.{◌≡◌, ℕ, Bool, true, false, ◌++◌, refl, sym, ap, ◌∙◌, arith}
-use Rattle.std.specs.Prelude.{◌==◌, ◌&&◌}
+use Rattle.std.proofs.Common.{◌≡◌, ℕ, Bool, true, ◌++◌, arith}
+use Rattle.std.specs.Prelude.{◌==◌}
 use Rattle.std.specs.List.{flat_map}
 use Rattle.std.specs.declared.cmp.Ordering.{Ordering}
-use Rattle.std.specs.Ordering.{nat_cmp, on, eq_of_both, then_cmp, ordering_then, is_eq, eq_by_cmp}
+use Rattle.std.specs.Ordering.{nat_cmp, on, eq_of_both, then_cmp, ordering_then, eq_by_cmp}
 use Rattle.std.specs.Cmp.{tied_then, unsigned_tied}
 use Rattle.std.specs.Cmp.Lexicographic.{pointwise, slice_cmp, bytes_decides, texts_ties}
 use Rattle.std.specs.Hash as fed
+use Rattle.std.proofs.lemmas.Bool.{and_parts}
 use Rattle.std.proofs.lemmas.Bool.Decides.{nat_tests}
-use Rattle.wire_spec.specs.OwnedNames.{is_same_name, name_cmp, lowered_wire}
-use Rattle.wire_spec.specs.NameOrderLaws.{same_name_ties, fed-same}
-use Rattle.wire_spec.specs.Params.{wire}
-use Rattle.wire_spec.specs.Records.{Record}
+use Rattle.name_spec.specs.OwnedNames.{is_same_name, name_cmp, lowered_wire}
+use Rattle.name_spec.specs.NameOrderLaws.{same_name_ties, fed-same}
+use Rattle.svcb_spec.specs.Params.{wire}
+use Rattle.svcb_spec.specs.Records.{Record}
 
 -- equal priorities, targets that are the same but for ASCII case, and parameters with equal octets
 abbrev pub is_same_data : Record → Record → Bool
@@ -27,15 +28,8 @@ data_fed r = fed.u16 r.priority ++ (flat_map fed.u8 (lowered_wire r.labels) ++ f
 
 -- ---- laws
 
-both : (a b : Bool) → (a && b) ≡ true → (a ≡ true) × (b ≡ true)
-both true b is = (refl, is)
-both false b is = cc
-
 same_number : (a b : ℕ) → (a == b) ≡ true → a ≡ b
 same_number a b is = grind (arith, nat_tests)
-
-all_same : (a b c a' b' c' : Bool) → a ≡ a' → b ≡ b' → c ≡ c' → (a && (b && c)) ≡ (a' && (b' && c'))
-all_same a b c a' b' c' is_a is_b is_c = ap (λ t. t && (b && c)) is_a ∙ ap (λ t. a' && (t && c)) is_b ∙ ap (λ t. a' && (b' && t)) is_c
 
 -- the order finds equal what is the same data
 pub same_data_ties : (x y : Record) → is_same_data x y ≡ eq_by_cmp data_cmp x y
@@ -43,15 +37,11 @@ same_data_ties x y =
     let p = nat_cmp x.priority y.priority in
     let t = name_cmp x.labels y.labels in
     let o = slice_cmp nat_cmp (wire x.pairs) (wire y.pairs) in
-    all_same _ _ _ (is_eq p) (is_eq t) (is_eq o) (sym (unsigned_tied x.priority y.priority)) (same_name_ties x.labels y.labels) (texts_ties (wire x.pairs) (wire y.pairs))
-    ∙ ap (λ b. is_eq p && b) (tied_then t o)
-    ∙ tied_then p (ordering_then t o)
+    cc (unsigned_tied x.priority y.priority, same_name_ties x.labels y.labels, texts_ties (wire x.pairs) (wire y.pairs), tied_then t o, tied_then p (ordering_then t o))
 
 -- the same data feeds the same
 pub same_data_fed : (x y : Record) → is_same_data x y ≡ true → data_fed x ≡ data_fed y
 same_data_fed x y is =
-    let first = both (x.priority == y.priority) _ is in
-    let second = both (is_same_name x.labels y.labels) (pointwise ◌==◌ (wire x.pairs) (wire y.pairs)) first.1 in
-    ap (λ n. fed.u16 n ++ (flat_map fed.u8 (lowered_wire x.labels) ++ fed.slice fed.u8 (wire x.pairs))) (same_number x.priority y.priority first.0)
-    ∙ ap (λ target. fed.u16 y.priority ++ (target ++ fed.slice fed.u8 (wire x.pairs))) (fed-same (flat_map fed.u8) x.labels y.labels second.0)
-    ∙ ap (λ octets. fed.u16 y.priority ++ (flat_map fed.u8 (lowered_wire y.labels) ++ fed.slice fed.u8 octets)) ((bytes_decides (wire x.pairs) (wire y.pairs)).0 second.1)
+    let first = and_parts (x.priority == y.priority) _ is in
+    let second = and_parts (is_same_name x.labels y.labels) (pointwise ◌==◌ (wire x.pairs) (wire y.pairs)) first.1 in
+    cc (same_number x.priority y.priority first.0, fed-same (flat_map fed.u8) x.labels y.labels second.0, (bytes_decides (wire x.pairs) (wire y.pairs)).0 second.1)

@@ -1,11 +1,11 @@
 -- Laws of rebuilding that speak of readers.
 use Rattle.std.specs.Prelude.{◌≡◌, ℕ, List, [], ◌∷◌, true, Some}
-use Rattle.wire_spec.specs.declared.Reply.{Reply}
-use Rattle.wire_spec.specs.declared.Reply.TheVariants.{Accepted}
-use Rattle.wire_spec.specs.Params.{Pairs}
-use Rattle.wire_spec.specs.Values.{Value, key_of, is_own_type, AreValues}
-use Rattle.wire_spec.specs.Records.{Record}
-use Rattle.wire_spec.specs.Rebuilding.{accept, accepted, IsRebuilding}
+use Rattle.svcb_spec.specs.declared.Reply.{Reply}
+use Rattle.svcb_spec.specs.declared.Reply.TheVariants.{Accepted}
+use Rattle.svcb_spec.specs.Params.{Pairs}
+use Rattle.svcb_spec.specs.Values.{Value, key_of, is_own_type, AreValues}
+use Rattle.svcb_spec.specs.Records.{Record}
+use Rattle.svcb_spec.specs.Rebuilding.{accept, accepted, IsRebuilding}
 use Rattle.svcb_params.specs.Items.{typed_at}
 
 -- each typed value that was accepted is what its type reads under its key
@@ -21,6 +21,13 @@ AcceptedRead = (pairs : Pairs) (limit : ℕ) (values : List Value) → AreValues
     → AreRead (accept pairs limit values).pairs values (accept pairs limit values).replies
 
 -- octets are those of some record data rebuilt, whose final map is `pairs`
-abbrev pub AreRebuilt : List ℕ → Pairs → Type 0
-AreRebuilt octets pairs = (message : List ℕ) × (start : ℕ) × (len : ℕ) × (values : List Value) × (limit : ℕ) × (found : Record) × (replies : List Reply)
-    × IsRebuilding message start len values limit found (record { octets = octets; replies = replies }) × (pairs ≡ (accepted found values limit).pairs)
+pub record AreRebuilt (octets : List ℕ) (pairs : Pairs) : Type 0 where
+  pub message : List ℕ
+  pub start : ℕ
+  pub len : ℕ
+  pub values : List Value
+  pub limit : ℕ
+  pub found : Record
+  pub replies : List Reply
+  pub rebuilding : IsRebuilding message start len values limit found (record { octets = octets; replies = replies })
+  pub pairs_are : pairs ≡ (accepted found values limit).pairs

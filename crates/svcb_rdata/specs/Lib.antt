@@ -1,5 +1,6 @@
 pub mod RebuildErrors
 pub mod RebuiltView
+pub mod Pushing
 pub mod Reading
 pub mod Comparing
 pub mod Laws

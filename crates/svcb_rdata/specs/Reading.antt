@@ -1,21 +1,41 @@
 -- Record data as its readers see it.
-use Rattle.std.specs.Prelude.{ℕ, ◌-◌, Result, Ok, Err}
-use Rattle.wire_spec.specs.Octets.{Fault}
-use Rattle.wire_spec.specs.Params.{Pairs}
-use Rattle.wire_spec.specs.Records.{Record, read}
+use Rattle.std.specs.Prelude.{ℕ, ◌+◌, ◌-◌, Bool, Result, Ok, Err}
+use Rattle.name_spec.specs.Octets.{Fault}
+use Rattle.name_spec.specs.Names.{is_pointed}
+use Rattle.svcb_spec.specs.Params.{Pairs}
+use Rattle.svcb_spec.specs.Records.{Record, read}
 use Rattle.wire_base.specs.Input.{Input}
+use Rattle.wire_base.specs.NameView.{NameView}
 use Rattle.wire_base.specs.RecordReading.{DataRead}
+
+-- record data in a message, whose target may be compressed
+pub record RecordView : Type 0 where
+  pub priority : ℕ
+  pub target : NameView
+  pub pairs : Pairs
+
+-- the record data that is seen
+abbrev pub record_of : RecordView → Record
+record_of view = record { priority = view.priority; labels = view.target.labels; pairs = view.pairs }
+
+-- the record data in all octets before the end of the data
+abbrev pub next_record : Input → Result Record Fault
+next_record input = read input.message input.pos (input.end - input.pos)
+
+-- whether a pointer is followed to read its target, which stands behind the priority
+abbrev pub is_target_pointed : Input → Bool
+is_target_pointed input = is_pointed input.message input.end (input.pos + 2)
 
 -- data that reaches to a place
 abbrev pub reaching : ℕ → Result Record Fault → Result (DataRead Record) Fault
 reaching end (Ok found) = Ok (record { value = found; next = end })
 reaching end (Err fault) = Err fault
 
--- the parameters of a record that was read
-abbrev pub pairs_of : Result Record Fault → Result Pairs Fault
-pairs_of (Ok found) = Ok found.pairs
-pairs_of (Err fault) = Err fault
-
--- the record data in all octets before the end of the data
+-- that record data, and the place behind it
 abbrev pub data_read : Input → Result (DataRead Record) Fault
-data_read input = reaching input.end (read input.message input.pos (input.end - input.pos))
+data_read input = reaching input.end (next_record input)
+
+-- the parameters of a record that was read
+abbrev pub record_pairs : Result Record Fault → Result Pairs Fault
+record_pairs (Ok found) = Ok found.pairs
+record_pairs (Err fault) = Err fault

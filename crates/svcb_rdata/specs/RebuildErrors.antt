@@ -1,8 +1,16 @@
 -- The error of the same name.
+use Rattle.wire_base.specs.declared.errors.ParseError.{ParseError}
+use Rattle.wire_base.specs.declared.errors.ParseError.TheVariants as parse
 use Rattle.svcb_params.specs.declared.errors.BufError.{BufError}
 use Rattle.svcb_params.specs.declared.errors.BufError.TheVariants as buf
 use Rattle.svcb_rdata.specs.declared.errors.RebuildError.{RebuildError}
 use Rattle.svcb_rdata.specs.declared.errors.RebuildError.TheVariants as rebuild
+
+-- want of memory is none of the faults of the data
+abbrev pub error_of_parse : ParseError → RebuildError
+error_of_parse parse.ShortInput = rebuild.Parse parse.ShortInput
+error_of_parse parse.Form = rebuild.Parse parse.Form
+error_of_parse parse.NoMemory = rebuild.NoMemory
 
 abbrev pub error_of_buf : BufError → RebuildError
 error_of_buf buf.ShortBuf = rebuild.ShortBuf

@@ -1,7 +1,10 @@
 -- The answers of rebuilding.
-use Rattle.std.specs.Prelude.{◌≡◌, Result, Ok, Err}
-use Rattle.wire_spec.specs.Octets.{Short, Form}
-use Rattle.wire_spec.specs.Rebuilding as spec
+use Rattle.std.specs.Prelude.{◌≡◌, ℕ, List, length, Result, Ok, Err}
+use Rattle.name_spec.specs.Octets.{Short, Form}
+use Rattle.svcb_spec.specs.Values.{Value}
+use Rattle.svcb_spec.specs.Records.{Record, read, rdata}
+use Rattle.svcb_spec.specs.Rebuilding as spec
+use Rattle.svcb_spec.specs.Rebuilding.{accept, IsRebuilding}
 use Rattle.wire_base.specs.declared.errors.ParseError.{ParseError}
 use Rattle.wire_base.specs.declared.errors.ParseError.TheVariants as parse
 use Rattle.svcb_rdata.specs.declared.errors.RebuildError.{RebuildError}
@@ -28,6 +31,20 @@ IsRefusal ShortBuf answer = answer ≡ Err spec.OverLimit
 IsRefusal LongRecordData answer = answer ≡ Err spec.TooLong
 IsRefusal NoMemory answer = MayWantMemory answer
 
--- the octets and the replies are those of the answer
-abbrev pub IsDone : Rebuilt → Result spec.Rebuilt spec.Refusal → Type 0
-IsDone done answer = answer ≡ Ok (record { octets = done.octets; replies = done.replies })
+-- what was rebuilt, as contracts see it
+abbrev pub seen : Rebuilt → spec.Rebuilt
+seen done = record { octets = done.octets; replies = done.replies }
+
+-- the octets and the replies are those of the answer, or the error is its refusal
+abbrev pub AnswersRebuild : Result Rebuilt RebuildError → Result spec.Rebuilt spec.Refusal → Type 0
+AnswersRebuild (Ok done) answer = answer ≡ Ok (seen done)
+AnswersRebuild (Err error) answer = IsRefusal error answer
+
+-- how many octets the record data has with the values that are accepted
+abbrev pub rebuilt_len : Record → List Value → ℕ → ℕ
+rebuilt_len found values limit = length (rdata found.priority found.labels (accept found.pairs limit values).pairs)
+
+-- what was rebuilt is a rebuilding of the record that was read: the premise of the laws
+abbrev pub IsRebuiltFrom : List ℕ → ℕ → ℕ → List Value → ℕ → Rebuilt → Type 0
+IsRebuiltFrom message start len values limit done =
+    (found : Record) → read message start len ≡ Ok found → IsRebuilding message start len values limit found (seen done)

@@ -59,7 +59,8 @@ impl<V> PartialOrd for SvcbRdata<V> {
 
     ghost partial_cmp = { as_partial_cmp data_cmp };
 
-    ghost laws = { partial_order_from_own_ties (Prim.search (comparing, rules) depth 16) same_data_ties };
+    ghost laws = { partial_order_from_own_ties
+        (Prim.search (comparing, rules) depth 16) same_data_ties };
 
     fn partial_cmp(&self, other: &SvcbRdata<V>) -> Option<Ordering> {
         Some(self.cmp(other))

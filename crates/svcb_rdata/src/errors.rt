@@ -10,7 +10,7 @@ use wire_base::{LongRecordData, NoMemory, ParseError};
 /// Why record data was not rebuilt.
 #[derive(Clone, Copy, Debug, PartialEq, Eq, Error)]
 pub enum RebuildError {
-    /// The record data could not be read. The error is never want of memory.
+    /// The record data has a fault, which is `ShortInput` or `Form` and never `NoMemory`.
     #[error(transparent)]
     Parse(ParseError),
     /// The parameters that were read have more octets in wire form than the limit.
@@ -24,11 +24,18 @@ pub enum RebuildError {
     NoMemory,
 }
 
+/// A fault of the data stays one; want of memory is `NoMemory`.
 impl From<ParseError> for RebuildError {
-    ghost from_gives = { λ parse error. error ≡ errors.Parse parse };
+    ghost use Rattle.std.specs.Prelude.{◌≡◌};
+    ghost use Rattle.svcb_rdata.specs.RebuildErrors.{error_of_parse};
+
+    ghost from_gives = { λ parse error. error ≡ error_of_parse parse };
 
     fn from(error: ParseError) -> RebuildError {
-        RebuildError::Parse(error)
+        match error {
+            ParseError::ShortInput | ParseError::Form => RebuildError::Parse(error),
+            ParseError::NoMemory => RebuildError::NoMemory,
+        }
     }
 }
 

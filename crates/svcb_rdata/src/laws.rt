@@ -1,10 +1,10 @@
 //! Laws of rebuilding that speak of readers, each proved for all arguments. Those over the definitions alone stand in
-//! `wire_spec::laws`.
+//! `svcb_spec::laws`.
 
 ghost use Rattle.std.specs.Prelude.{◌≡◌, Ok, length};
-ghost use Rattle.wire_spec.specs.Records.{read};
+ghost use Rattle.svcb_spec.specs.Records.{read};
 ghost use Rattle.wire_base.specs.Faults.{Gives};
-ghost use Rattle.svcb_rdata.specs.Reading.{pairs_of};
+ghost use Rattle.svcb_rdata.specs.Reading.{record_pairs};
 ghost use Rattle.svcb_rdata.specs.Laws.{AcceptedRead, AreRebuilt};
 
 use crate::rebuild::read_record;
@@ -22,7 +22,8 @@ pub fn accepted_read()
 ///
 /// `ShortInput`: the data ends within a part of it. `Form`: it is no record data otherwise, as `SvcbRef::parse` says.
 pub fn raw_pairs(octets: &[u8]) -> Result<RawIter<'_>, ParseError>
-    ensures answer { Gives (λ pairs. pairs) result (pairs_of (read octets.now 0 (length octets.now))) }
+    ensures answer { Gives (λ pairs. pairs) result
+        (record_pairs (read octets.now 0 (length octets.now))) }
     ensures rebuilt { (pairs : _) → AreRebuilt octets.now pairs → result ≡ Ok pairs }
 {
     let found = read_record(octets, 0, octets.len())?;

@@ -4,7 +4,6 @@
 mod comparisons;
 mod errors;
 pub mod laws;
-mod pushed;
 mod rdata;
 mod rebuild;
 mod replies;
@@ -17,12 +16,7 @@ pub use rebuild::{Rebuilt, rebuild_svcb};
 pub use registry::{LongSvcParam, SvcParamKey};
 pub use replies::Replies;
 pub use svcb_ref::SvcbRef;
+pub use svcb_spec::Reply;
 pub use svcb_text::AllValues;
 pub use svcb_value::UnknownSvcParam;
 pub use variant::{HttpsVariant, SvcVariant, SvcbVariant};
-pub use wire_spec::Reply;
-
-#[cfg(test)]
-mod record_tests;
-#[cfg(test)]
-mod tests;

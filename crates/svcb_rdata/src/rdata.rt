@@ -1,14 +1,16 @@
 //! Owned record data of SVCB and HTTPS.
 
-ghost use Rattle.std.specs.Prelude.{◌≡◌, ◌==◌, ◌-◌, ◌≤◌, ◌<◌, ◌++◌, not, length, Some, IfOk, OnOk, OnErr};
-ghost use Rattle.wire_spec.specs.Records.{Record, rdata, read, IsRecord};
+ghost use Rattle.std.specs.Prelude.{◌≡◌, ◌==◌, ◌≤◌, ◌<◌, not, refl, length, Some, IfOk, OnOk, OnErr};
+ghost use Rattle.svcb_spec.specs.Records.{Record, rdata, IsRecord};
 ghost use Rattle.wire_base.specs.Faults.{GivesCopy};
-ghost use Rattle.svcb_rdata.specs.Reading.{data_read};
+ghost use Rattle.wire_base.specs.Moving.{TakesAll, AppendsOctets};
+ghost use Rattle.svcb_rdata.specs.Reading.{next_record, data_read};
 
 use crate::svcb_ref::SvcbRef;
 use crate::variant::{HttpsVariant, SvcVariant, SvcbVariant};
 use std::alloc::Global;
 use std::cmp::Ordering;
+use std::fmt;
 use std::marker::{Model, PhantomData};
 use svcb_params::SvcParams;
 use wire_base::{
@@ -35,18 +37,31 @@ pub type Svcb = SvcbRdata<SvcbVariant>;
 pub type Https = SvcbRdata<HttpsVariant>;
 
 impl<V> Model for SvcbRdata<V> {
-    ghost use Rattle.wire_spec.specs.Records.{Record, IsRecord};
+    ghost use Rattle.svcb_spec.specs.Records.{Record, IsRecord};
 
     ghost Value = { Record };
 
-    ghost view = { λ found. record { priority = found.priority; labels = found.target; pairs = found.params } };
+    ghost view = { λ found. record
+        { priority = found.priority; labels = found.target; pairs = found.params } };
 
-    ghost invariant = { λ found. IsRecord (record { priority = found.priority; labels = found.target; pairs = found.params }) };
+    ghost invariant = { λ found. IsRecord (record
+        { priority = found.priority; labels = found.target; pairs = found.params }) };
+}
+
+/// The name of the alias, and the parts.
+impl<V: SvcVariant> fmt::Debug for SvcbRdata<V> {
+    fn fmt<W: fmt::Write>(&self, f: &mut fmt::Formatter<W>) -> fmt::Result {
+        f.debug_struct(V::NAME)
+            .field("priority", &self.priority)
+            .field("target", &self.target)
+            .field("params", &self.params)
+            .finish()
+    }
 }
 
 impl<V> SvcbRdata<V> {
     /// The record data of parts that are known to be one.
-    pub(crate) fn of(priority: u16, target: Name, params: SvcParams) -> SvcbRdata<V>
+    pub(crate) fn from_checked_parts(priority: u16, target: Name, params: SvcParams) -> SvcbRdata<V>
         requires { IsRecord (record { priority = priority; labels = target; pairs = params }) }
         ensures { result ≡ record { priority = priority; labels = target; pairs = params } }
     {
@@ -58,40 +73,34 @@ impl<V> SvcbRdata<V> {
         }
     }
 
-    /// The record data of its parts. Refused exactly where it would have more than 65,535 octets; the parts are then
-    /// dropped.
+    /// The record data of its parts. No memory is taken.
+    ///
+    /// `LongRecordData`: it would have more than 65,535 octets. The parts are then dropped.
     pub fn new(
         priority: u16,
         target: Name,
         params: SvcParams,
     ) -> Result<SvcbRdata<V>, LongRecordData>
-        ensures made { IfOk result (λ made. made ≡ record { priority = priority; labels = target; pairs = params }) }
+        ensures made { IfOk result
+            (λ made. made ≡ record { priority = priority; labels = target; pairs = params }) }
         ensures ok { OnOk result (length (rdata priority target params) ≤ 65535) }
         ensures long { OnErr result (65535 < length (rdata priority target params)) }
     {
         LongRecordData::check_append_len(2 + usize::from(target.compose_len()), params.len())?;
-        Ok(SvcbRdata::of(priority, target, params))
+        Ok(SvcbRdata::from_checked_parts(priority, target, params))
     }
 
     /// Reads the record data in all octets before the end of the data, and copies it. Its target is then uncompressed.
     ///
-    /// `ShortInput`: the data ends within a part of it. `Form`: it has more than 65,535 octets as it stands or
-    /// uncompressed, its target has that fault, or a key isn't above the one before it. `NoMemory`: the data has no
+    /// `ShortInput`, `Form`: the first fault of the data, as [`SvcbRef::parse`] tells it. `NoMemory`: the data has no
     /// fault, and the memory for the copy isn't there. The parser then stays.
     pub fn parse(alloc: Global, parser: &mut Parser<'_>) -> Result<SvcbRdata<V>, ParseError>
-        ensures answer { GivesCopy (λ found. found) result (read parser.old.message parser.old.pos (parser.old.end - parser.old.pos)) }
-        ensures ok { OnOk result (parser.new ≡ record parser.old { pos = parser.old.end }) }
-        ensures err { OnErr result (parser.new ≡ parser.old) }
+        ensures answer { GivesCopy (λ found. found) result (next_record parser.old) }
+        ensures takes { TakesAll parser.old parser.new result }
     {
-        let start = parser.pos();
-        let found: SvcbRef<'_, V> = SvcbRef::parse(parser)?;
-        match found.to_owned_data(alloc) {
-            Ok(owned) => Ok(owned),
-            Err(NoMemory) => {
-                parser.seek(start)?;
-                Err(ParseError::NoMemory)
-            }
-        }
+        let owned = SvcbRef::<'_, V>::peek(parser)?.to_owned_data(alloc)?;
+        parser.advance_to_end();
+        Ok(owned)
     }
 
     /// The priority; 0 is alias mode (RFC 9460, section 2.4.1).
@@ -129,13 +138,15 @@ impl<V> SvcbRdata<V> {
         &self.params
     }
 
-    /// A copy. Refused for want of memory alone.
+    /// A copy.
+    ///
+    /// `NoMemory`: the memory for it isn't there.
     pub fn try_clone(&self, alloc: Global) -> Result<SvcbRdata<V>, NoMemory>
         ensures { IfOk result (λ copy. copy ≡ self.now) }
     {
         let target = self.target.try_clone(alloc)?;
         let params = self.params.try_clone(alloc)?;
-        Ok(SvcbRdata::of(self.priority, target, params))
+        Ok(SvcbRdata::from_checked_parts(self.priority, target, params))
     }
 
     /// The count of octets.
@@ -169,6 +180,13 @@ impl<V: SvcVariant> ComposeRecordData for SvcbRdata<V> {
         target.extend_from_slice(self.params.as_slice()).unwrap();
         Ok(())
     }
+
+    /// The target's case stays in canonical form, so these are the octets of `compose_rdata`.
+    fn compose_canonical_rdata(&self, target: &mut Vec<u8>) -> Result<(), NoMemory> {
+        self.compose_rdata(target)
+    }
+
+    ghost by_type = { λ _. refl };
 }
 
 impl<V: SvcVariant> ParseRecordData for SvcbRdata<V> {
@@ -199,7 +217,7 @@ impl<V: SvcVariant> CanonicalOrd for SvcbRdata<V> {
 
     ghost canonical = { λ found. rdata found.priority found.labels found.pairs };
 
-    #[tactic(auto, using(wire_spec::proofs::OrderLaws::data_orders))]
+    #[tactic(auto, using(svcb_spec::proofs::OrderLaws::data_orders))]
     fn canonical_cmp(&self, other: &SvcbRdata<V>) -> Ordering {
         self.priority
             .cmp(&other.priority)

@@ -1,31 +1,42 @@
 //! Record data with parameters added.
 
-ghost use Rattle.std.specs.Prelude.{◌≡◌, ◌+◌, ◌≤◌, ◌<◌, ◌^◌, length, map, Ok, IfOk, IfErr};
-ghost use Rattle.wire_spec.specs.Records.{Record, rdata, read};
-ghost use Rattle.wire_spec.specs.Values.{key_of, encode};
-ghost use Rattle.wire_spec.specs.Rebuilding.{reply_to, after, accept, rebuild, IsRebuilding};
+ghost use Rattle.std.specs.Prelude.{◌≡◌, ◌↔◌, ◌+◌, ◌≤◌, ◌<◌, ◌^◌, length, map};
+ghost use Rattle.std.specs.Prelude.{Err, IfOk, OnOk, IsErrOf, IsOkAnd};
+ghost use Rattle.name_spec.specs.Octets.{Short, Form};
+ghost use Rattle.svcb_spec.specs.Params.{wire};
+ghost use Rattle.svcb_spec.specs.Values.{IsValue, AreValues};
+ghost use Rattle.svcb_spec.specs.Records.{rdata, read};
+ghost use Rattle.svcb_spec.specs.Rebuilding.{accept, rebuild_read, rebuild};
+ghost use Rattle.wire_base.specs.declared.errors.ParseError.TheVariants as parse;
 ghost use Rattle.wire_base.specs.Faults.{Gives};
 ghost use Rattle.svcb_text.specs.AllValues.{value_of};
-ghost use Rattle.svcb_rdata.specs.RebuiltView.{IsDone, IsRefusal};
+ghost use Rattle.svcb_rdata.specs.declared.errors.RebuildError.TheVariants as errors;
+ghost use Rattle.svcb_rdata.specs.Pushing.{reply_of_value, behind_value};
+ghost use Rattle.svcb_rdata.specs.Reading.{record_of};
+ghost use Rattle.svcb_rdata.specs.RebuiltView.{AnswersRebuild, IsRebuiltFrom, rebuilt_len};
 
 use crate::errors::RebuildError;
-use crate::pushed::hold_values;
 use crate::replies::Replies;
 use crate::svcb_ref::SvcbRef;
 use crate::variant::SvcbVariant;
-use registry::Integer;
+use registry::ComposeSvcParamValue;
 use std::alloc::Global;
-use svcb_params::{PushError, SvcParams, SvcParamsBuilder};
+use svcb_params::{PushError, SvcParamsOverlay};
+use svcb_spec::Reply;
 use svcb_text::AllValues;
 use wire_base::{LongRecordData, NoMemory, Octets, ParseError, Parser};
-use wire_spec::Reply;
 
 /// Pushes a value, which may be refused, and replies.
-fn push_one(builder: &mut SvcParamsBuilder, push: &AllValues) -> Result<Reply, NoMemory>
-    ensures reply { IfOk result (λ reply. reply ≡ reply_to builder.old.pairs builder.old.limit (key_of (value_of push.now)) (encode (value_of push.now))) }
-    ensures ok { IfOk result (λ reply. builder.new ≡ record builder.old { pairs = after reply builder.old.pairs (key_of (value_of push.now)) (encode (value_of push.now)) }) }
+fn push_one(params: &mut SvcParamsOverlay<'_>, push: &AllValues) -> Result<Reply, NoMemory>
+    ensures reply { IfOk result
+        (λ reply. reply ≡ reply_of_value params.old.builder (value_of push.now)) }
+    ensures ok { IfOk result (λ reply. params.new.builder
+        ≡ behind_value params.old.builder (value_of push.now) reply) }
+    ensures value { IsValue (value_of push.now) }
 {
-    match builder.push(push) {
+    // its length tells that it has the items of its type, within 65,535 octets
+    let _len = push.compose_len();
+    match params.push(push) {
         Ok(()) => Ok(Reply::Accepted),
         Err(PushError::DuplicateKey) => Ok(Reply::DuplicateKey),
         Err(PushError::ShortBuf) => Ok(Reply::ShortBuf),
@@ -36,14 +47,17 @@ fn push_one(builder: &mut SvcParamsBuilder, push: &AllValues) -> Result<Reply, N
 /// Tries the pushes in order, with a reply to each.
 fn push_all(
     alloc: Global,
-    builder: &mut SvcParamsBuilder,
+    params: &mut SvcParamsOverlay<'_>,
     pushes: &[AllValues],
 ) -> Result<Replies, NoMemory>
-    ensures { IfOk result (λ replies. accept builder.old.pairs builder.old.limit (map value_of pushes.now) ≡ record { pairs = builder.new.pairs; replies = replies }) }
+    ensures replies { IfOk result (λ replies.
+        accept params.old.builder.pairs params.old.builder.limit (map value_of pushes.now)
+        ≡ record { pairs = params.new.builder.pairs; replies = replies }) }
+    ensures values { OnOk result (AreValues (map value_of pushes.now)) }
 {
     let mut replies = Vec::with_capacity(alloc, pushes.len())?;
     for push in pushes {
-        let reply = push_one(builder, push)?;
+        let reply = push_one(params, push)?;
         replies.push(reply)?;
     }
     Ok(Replies::from_vec(replies))
@@ -57,7 +71,7 @@ pub(crate) fn read_record(
     len: usize,
 ) -> Result<SvcbRef<'_, SvcbVariant>, ParseError>
     requires { start + len ≤ length message.now }
-    ensures { Gives (λ found. found) result (read message.now start len) }
+    ensures { Gives record_of result (read message.now start len) }
 {
     let mut parser = Parser::from_ref(message);
     parser.advance(start)?;
@@ -66,8 +80,9 @@ pub(crate) fn read_record(
 }
 
 /// The count of octets of record data with these parameters, its target uncompressed.
-fn rdlen(found: &SvcbRef<'_, SvcbVariant>, params: &SvcParamsBuilder) -> usize
-    ensures { result ≡ length (rdata found.now.priority found.now.labels params.now.pairs) }
+fn rdlen(found: &SvcbRef<'_, SvcbVariant>, params: &SvcParamsOverlay<'_>) -> usize
+    ensures { result
+        ≡ length (rdata found.now.priority found.now.target.labels params.now.builder.pairs) }
 {
     2 + usize::from(found.target().compose_len()) + params.len()
 }
@@ -77,19 +92,21 @@ fn compose(
     alloc: Global,
     len: usize,
     found: &SvcbRef<'_, SvcbVariant>,
-    params: &SvcParams,
+    params: &SvcParamsOverlay<'_>,
 ) -> Result<Octets, NoMemory>
-    ensures { IfOk result (λ octets. octets ≡ rdata found.now.priority found.now.labels params.now) }
+    ensures { IfOk result
+        (λ octets. octets
+        ≡ rdata found.now.priority found.now.target.labels params.now.builder.pairs) }
 {
     let mut octets = Vec::with_capacity(alloc, len)?;
-    found.priority().compose(&mut octets)?;
+    octets.extend_from_slice(&found.priority().to_be_bytes())?;
     found.target().compose(&mut octets)?;
     params.compose(&mut octets)?;
     Ok(Octets::from_vec(octets))
 }
 
 /// Record data that was rebuilt.
-#[derive(Drop)]
+#[derive(Debug, PartialEq, Eq, Drop)]
 pub struct Rebuilt {
     /// The record data in wire form, its target uncompressed.
     pub octets: Octets,
@@ -97,40 +114,38 @@ pub struct Rebuilt {
     pub replies: Replies,
 }
 
-/// What `rebuild_svcb` answers.
-#[tactic(auto, using(std::proofs::lemmas::Bool::Decides::nat_tests), unfolding(wire_spec::specs::Rebuilding::rebuild))]
-fn rebuild(
+/// A record that was read, with the pushes, as [`rebuild_svcb`] does.
+#[tactic(auto, using(std::proofs::lemmas::Bool::Decides::nat_tests))]
+fn add_pushes(
     alloc: Global,
-    message: &[u8],
-    start: usize,
-    len: usize,
+    found: &SvcbRef<'_, SvcbVariant>,
     pushes: &[AllValues],
     limit: usize,
 ) -> Result<Rebuilt, RebuildError>
-    requires place { start + len ≤ length message.now }
-    requires small { limit < 2 ^ 31 }
-    ensures done { let answer = rebuild message.now start len (map value_of pushes.now) limit in
-        IfOk result (λ done. IsDone done answer) }
-    ensures refused { let answer = rebuild message.now start len (map value_of pushes.now) limit in
-        IfErr result (λ error. IsRefusal error answer) }
+    requires { limit < 2 ^ 31 }
+    ensures answer { AnswersRebuild result
+        (rebuild_read (record_of found.now) (map value_of pushes.now) limit) }
+    ensures values { OnOk result (AreValues (map value_of pushes.now)) }
 {
-    let found = read_record(message, start, len)?;
-    let mut builder = SvcParamsBuilder::from_params_limit(alloc, &found.params(), limit)?;
-    let replies = push_all(alloc, &mut builder, pushes)?;
-    let rdlen = rdlen(&found, &builder);
+    let mut params = SvcParamsOverlay::new(alloc, &found.params(), limit)?;
+    let replies = push_all(alloc, &mut params, pushes)?;
+    let rdlen = rdlen(found, &params);
     LongRecordData::check_len(rdlen)?;
-    let octets = compose(alloc, rdlen, &found, &builder.freeze(alloc)?)?;
+    let octets = compose(alloc, rdlen, found, &params)?;
     Ok(Rebuilt { octets, replies })
 }
 
 /// Reads the SVCB or HTTPS record data in the `len` octets from `start` on, and adds the pushes to its parameters in
-/// order, within a limit on the octets of all parameters in wire form (RFC 9460, section 2.2).
+/// order, within a limit on the octets of all parameters in wire form (RFC 9460, section 2.2). A push may be refused; its
+/// reply says so, and the next one is tried.
 ///
-/// `Parse`: the data has a fault, which is `ShortInput` or `Form`. `ShortBuf`: the parameters that were read exceed the
-/// limit. Both are tested before any memory is taken. `LongRecordData`: the result would exceed 65,535 octets.
-/// `NoMemory`: the memory for the result isn't there.
+/// `Parse(ShortInput)`, `Parse(Form)`: the first fault of the data, as [`SvcbRef::parse`] tells it. `ShortBuf`: the
+/// parameters that were read have more octets than the limit. These are tested before any memory is taken.
+/// `LongRecordData`: the result would have more than 65,535 octets. `NoMemory`: the memory for the result isn't there; it
+/// may come in place of the result or of `LongRecordData`. No reply is given where nothing is rebuilt.
 ///
-/// The clause `rebuilding` is the premise of the laws of `wire_spec::laws` on what rebuilding leaves.
+/// The clause `rebuilding` is the premise of the laws of `svcb_spec::laws` on what rebuilding leaves.
+#[tactic(auto, using(crate::proofs::Refusals::refusals), unfolding(svcb_spec::specs::Rebuilding::rebuild))]
 pub fn rebuild_svcb(
     alloc: Global,
     message: &[u8],
@@ -140,18 +155,24 @@ pub fn rebuild_svcb(
     limit: usize,
 ) -> Result<Rebuilt, RebuildError>
     requires place { start + len ≤ length message.now }
-    requires small { limit < 2 ^ 31 }
-    ensures done { let answer = rebuild message.now start len (map value_of pushes.now) limit in
-        IfOk result (λ done. IsDone done answer) }
-    ensures refused { let answer = rebuild message.now start len (map value_of pushes.now) limit in
-        IfErr result (λ error. IsRefusal error answer) }
-    ensures rebuilding { IfOk result (λ done. (found : Record) → read message.now start len ≡ Ok found → IsRebuilding message.now start len (map value_of pushes.now) limit found (record { octets = done.octets; replies = done.replies })) }
+    requires limit { limit < 2 ^ 31 }
+
+    ensures answer { AnswersRebuild result
+        (rebuild message.now start len (map value_of pushes.now) limit) }
+    ensures rebuilding { IfOk result
+        (IsRebuiltFrom message.now start len (map value_of pushes.now) limit) }
+
+    // Each refusal and its cause.
+    ensures short_input { IsErrOf result (errors.Parse parse.ShortInput)
+        ↔ (read message.now start len ≡ Err Short) }
+    ensures form { IsErrOf result (errors.Parse parse.Form)
+        ↔ (read message.now start len ≡ Err Form) }
+    ensures short_buf { IsErrOf result errors.ShortBuf
+        ↔ IsOkAnd (read message.now start len) (λ found. limit < length (wire found.pairs)) }
+    ensures long { IsErrOf result errors.LongRecordData → IsOkAnd (read message.now start len)
+        (λ found. 65535 < rebuilt_len found (map value_of pushes.now) limit) }
+    ensures fits { IfOk result (λ done. length done.octets ≤ 65535) }
 {
-    match rebuild(alloc, message, start, len, pushes, limit) {
-        Ok(done) => {
-            hold_values(pushes);
-            Ok(done)
-        }
-        Err(error) => Err(error),
-    }
+    let found = read_record(message, start, len)?;
+    add_pushes(alloc, &found, pushes, limit)
 }

@@ -3,17 +3,17 @@
 ghost use Rattle.std.specs.Prelude.{◌≡◌};
 
 use std::marker::Model;
-use wire_spec::Reply;
+use svcb_spec::Reply;
 
 /// A reply to each push, in the order of the pushes. Contracts see the list of them.
-#[derive(Drop)]
+#[derive(Debug, Drop)]
 pub struct Replies {
     replies: Vec<Reply>,
 }
 
 impl Model for Replies {
     ghost use Rattle.std.specs.Prelude.{List};
-    ghost use Rattle.wire_spec.specs.declared.Reply.{Reply};
+    ghost use Rattle.svcb_spec.specs.declared.Reply.{Reply};
 
     ghost Value = { List Reply };
 
@@ -42,4 +42,28 @@ impl Replies {
     {
         self.replies.as_slice()
     }
+}
+
+impl PartialEq for Replies {
+    ghost use Rattle.std.specs.Cmp.Lexicographic.{pointwise};
+    ghost use Rattle.std.specs.Cmp.Rules.{comparing};
+    ghost use Rattle.std.proofs.Common.{rules};
+    ghost use Rattle.svcb_spec.specs.contracts.ReplyPartialEq.TheImpl.{ghosts};
+    ghost use Rattle.svcb_spec.specs.contracts.ReplyPartialEq.TheImpl.Laws.{laws-law};
+
+    ghost eq = { pointwise ghosts.eq };
+
+    ghost laws = { Prim.search (comparing, rules, laws-law) };
+
+    fn eq(&self, other: &Replies) -> bool {
+        self.as_slice() == other.as_slice()
+    }
+}
+
+impl Eq for Replies {
+    ghost use Rattle.std.specs.Cmp.Rules.{comparing};
+    ghost use Rattle.std.proofs.Common.{rules};
+    ghost use Rattle.svcb_spec.specs.contracts.ReplyEq.TheImpl.Laws.{laws-law};
+
+    ghost laws = { Prim.search (comparing, rules, laws-law) };
 }

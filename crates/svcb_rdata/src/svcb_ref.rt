@@ -1,11 +1,10 @@
 //! Record data of SVCB and HTTPS in a message.
 
-ghost use Rattle.std.specs.Prelude.{◌≡◌, ◌==◌, ◌-◌, ◌+◌, ◌<◌, not, length, IfOk, OnOk, OnErr};
-ghost use Rattle.wire_spec.specs.Names.{AreLabels};
-ghost use Rattle.wire_spec.specs.Params.{IsMap};
-ghost use Rattle.wire_spec.specs.Records.{read, IsRecord};
+ghost use Rattle.std.specs.Prelude.{◌≡◌, ◌==◌, not, IfOk, OnOk};
 ghost use Rattle.wire_base.specs.Faults.{Gives};
-ghost use Rattle.svcb_params.specs.Parameters.{pairs_in};
+ghost use Rattle.wire_base.specs.Moving.{TakesAll};
+ghost use Rattle.svcb_params.specs.ParamsView.{seen_params};
+ghost use Rattle.svcb_rdata.specs.Reading.{record_of, next_record, is_target_pointed};
 
 use crate::rdata::SvcbRdata;
 use std::alloc::Global;
@@ -14,36 +13,50 @@ use svcb_params::SvcParamsRef;
 use wire_base::{LongRecordData, NoMemory, ParseError, ParsedName, Parser};
 
 /// The data of an SVCB or HTTPS record in a message (RFC 9460, section 2.2), which stays where it is. Contracts see its
-/// priority, the labels of its target, and its parameters.
+/// priority, its target as a name in a message, and its parameters.
 #[derive(Drop)]
+#[derive_where(Debug)]
 pub struct SvcbRef<'a, V> {
     priority: u16,
     target: ParsedName<'a>,
     params: SvcParamsRef<'a>,
+    #[derive_where(skip)]
     variant: PhantomData<V>,
 }
 
 impl<'a, V> Model for SvcbRef<'a, V> {
-    ghost use Rattle.wire_spec.specs.Records.{Record, IsRecord};
-    ghost use Rattle.svcb_params.specs.Parameters.{pairs_in};
+    ghost use Rattle.svcb_spec.specs.Records.{Record, IsRecord};
+    ghost use Rattle.svcb_params.specs.ParamsView.{seen_params};
+    ghost use Rattle.svcb_rdata.specs.Reading.{RecordView};
 
-    ghost Value = { Record };
+    ghost Value = { RecordView };
 
-    ghost view = { λ found. record { priority = found.priority; labels = found.target.labels; pairs = pairs_in found.params.slice.now } };
+    ghost view = { λ found. record {
+      priority = found.priority;
+      target = found.target;
+      pairs = seen_params found.params;
+    } };
 
-    ghost invariant = { λ found. IsRecord (record { priority = found.priority; labels = found.target.labels; pairs = pairs_in found.params.slice.now }) };
+    ghost invariant = { λ found. IsRecord (record {
+      priority = found.priority;
+      labels = found.target.labels;
+      pairs = seen_params found.params;
+    }) };
 }
 
 impl<'a, V> SvcbRef<'a, V> {
-    /// Reads all octets of a parser, which is not put back.
-    #[tactic(auto, using(std::proofs::lemmas::Bool::Decides::nat_tests, crate::proofs::Records::record_rules), unfolding(wire_spec::specs::Records::read))]
-    fn read(part: &mut Parser<'a>) -> Result<SvcbRef<'a, V>, ParseError>
-        ensures { Gives (λ found. found) result (read part.old.message part.old.pos (part.old.end - part.old.pos)) }
+    /// Reads the record data in place. Where it is refused, the parser stands anywhere within the data.
+    #[tactic(auto, using(crate::proofs::Records::reading_rules), unfolding(svcb_spec::specs::Records::read))]
+    fn read(parser: &mut Parser<'a>) -> Result<SvcbRef<'a, V>, ParseError>
+        ensures answer { Gives record_of result (next_record parser.old) }
+        ensures pointed { IfOk result
+            (λ found. found.target.is_compressed ≡ is_target_pointed parser.old) }
+        ensures within { parser.new ≡ record parser.old { pos = parser.new.pos } }
     {
-        LongRecordData::check_len(part.remaining())?;
-        let priority = part.parse_u16()?;
-        let target = ParsedName::parse(part)?;
-        let params = SvcParamsRef::parse(part)?;
+        LongRecordData::check_len(parser.remaining())?;
+        let priority = parser.parse_u16()?;
+        let target = ParsedName::parse(parser)?;
+        let params = SvcParamsRef::parse(parser)?;
         LongRecordData::check_len(2 + usize::from(target.compose_len()) + params.len())?;
         Ok(SvcbRef {
             priority,
@@ -53,24 +66,35 @@ impl<'a, V> SvcbRef<'a, V> {
         })
     }
 
-    /// Reads the record data in all octets before the end of the data (RFC 9460, section 2.2). No memory is taken.
-    ///
-    /// `ShortInput`: the data ends within a part of it. `Form`: it has more than 65,535 octets as it stands or
-    /// uncompressed, its target has that fault, or a key isn't above the one before it. The parser then stays.
-    pub fn parse(parser: &mut Parser<'a>) -> Result<SvcbRef<'a, V>, ParseError>
-        ensures answer { Gives (λ found. found) result (read parser.old.message parser.old.pos (parser.old.end - parser.old.pos)) }
-        ensures ok { OnOk result (parser.new ≡ record parser.old { pos = parser.old.end }) }
-        ensures err { OnErr result (parser.new ≡ parser.old) }
+    /// The record data in all octets before the end of the data. The parser stays.
+    pub(crate) fn peek(parser: &mut Parser<'a>) -> Result<SvcbRef<'a, V>, ParseError>
+        ensures answer { Gives record_of result (next_record parser.old) }
+        ensures pointed { IfOk result
+            (λ found. found.target.is_compressed ≡ is_target_pointed parser.old) }
+        ensures stays { parser.new ≡ parser.old }
     {
         let start = parser.pos();
-        let mut part = parser.parse_parser(parser.remaining())?;
-        match SvcbRef::read(&mut part) {
-            Ok(found) => Ok(found),
-            Err(error) => {
-                parser.seek(start)?;
-                Err(error)
-            }
-        }
+        let found = SvcbRef::read(parser);
+        parser.seek(start)?;
+        found
+    }
+
+    /// Reads the record data in all octets before the end of the data (RFC 9460, section 2.2). No memory is taken, so
+    /// `NoMemory` is never answered.
+    ///
+    /// `Form`: the data has more than 65,535 octets, which is tested first. Then the first fault along it decides:
+    /// `ShortInput` where it ends within the priority, the target, or a key, a length or a value; `Form` where the target
+    /// has that fault, as [`ParsedName::parse`] tells it, or a key isn't above the one before it. Last, `Form`: with its
+    /// target uncompressed the data would have more than 65,535 octets. The parser then stays.
+    pub fn parse(parser: &mut Parser<'a>) -> Result<SvcbRef<'a, V>, ParseError>
+        ensures answer { Gives record_of result (next_record parser.old) }
+        ensures pointed { IfOk result
+            (λ found. found.target.is_compressed ≡ is_target_pointed parser.old) }
+        ensures takes { TakesAll parser.old parser.new result }
+    {
+        let found = SvcbRef::peek(parser)?;
+        parser.advance_to_end();
+        Ok(found)
     }
 
     /// The priority; 0 is alias mode (RFC 9460, section 2.4.1).
@@ -95,25 +119,31 @@ impl<'a, V> SvcbRef<'a, V> {
     }
 
     /// The target name.
+    ///
+    /// RFC 9460, section 2.2, forbids a compressed target on the wire. It is read all the same, and
+    /// `target().is_compressed()` is how a client tells.
     pub fn target(&self) -> &ParsedName<'a>
-        ensures { result.now.labels ≡ self.now.labels }
+        ensures { result.now ≡ self.now.target }
     {
         &self.target
     }
 
-    /// The parameters.
+    /// The parameters. Values that are read from them borrow what this call gives, so bind it first:
+    /// `let params = found.params();`, and then `params.iter_all()` or `params.first()`.
     pub fn params(&self) -> SvcParamsRef<'a>
-        ensures { pairs_in result.slice.now ≡ self.now.pairs }
+        ensures { seen_params result ≡ self.now.pairs }
     {
         self.params
     }
 
-    /// The same record data by itself, its target uncompressed and in the same case. Refused for want of memory alone.
+    /// The same record data by itself, its target uncompressed and in the same case.
+    ///
+    /// `NoMemory`: the memory for the copy isn't there.
     pub fn to_owned_data(&self, alloc: Global) -> Result<SvcbRdata<V>, NoMemory>
-        ensures { IfOk result (λ owned. owned ≡ self.now) }
+        ensures { IfOk result (λ owned. owned ≡ record_of self.now) }
     {
         let target = self.target.to_name(alloc)?;
         let params = self.params.to_owned_data(alloc)?;
-        Ok(SvcbRdata::of(self.priority, target, params))
+        Ok(SvcbRdata::from_checked_parts(self.priority, target, params))
     }
 }

@@ -11,13 +11,16 @@ pub trait SvcVariant {
 
     /// The record type.
     const RTYPE: Rtype;
+
+    /// What `Debug` calls data of this record type.
+    const NAME: &'static str;
 }
 
-/// SVCB, the service binding of any protocol.
+/// SVCB, the service binding of any protocol (RFC 9460, section 14.1: type 64).
 #[derive(Clone, Copy, Debug, PartialEq, Eq, Hash)]
 pub struct SvcbVariant;
 
-/// HTTPS, the service binding of HTTP.
+/// HTTPS, the service binding of HTTP (RFC 9460, section 14.2: type 65).
 #[derive(Clone, Copy, Debug, PartialEq, Eq, Hash)]
 pub struct HttpsVariant;
 
@@ -25,10 +28,14 @@ impl SvcVariant for SvcbVariant {
     ghost RTYPE = { 64 };
 
     const RTYPE: Rtype = Rtype::SVCB;
+
+    const NAME: &'static str = "Svcb";
 }
 
 impl SvcVariant for HttpsVariant {
     ghost RTYPE = { 65 };
 
     const RTYPE: Rtype = Rtype::HTTPS;
+
+    const NAME: &'static str = "Https";
 }
