@@ -1,5 +1,5 @@
 -- Why an input is not read.
-use Rattle.std.specs.Prelude.{◌≡◌, ℕ}
+use Rattle.std.specs.Prelude.{◌≡◌, ℕ, ◌≤◌, IfErr, OnOk, Result}
 use Rattle.devices.specs.Faults.{Rose}
 use Rattle.devices.specs.declared.transfer.ReadError.{ReadError}
 use Rattle.devices.specs.declared.transfer.ReadError.TheVariants.{Failed, NoMemory}
@@ -8,3 +8,9 @@ use Rattle.devices.specs.declared.transfer.ReadError.TheVariants.{Failed, NoMemo
 abbrev pub ReadCause : ReadError → ℕ → ℕ → Type 0
 ReadCause Failed before now = Rose before now
 ReadCause NoMemory before now = now ≡ before
+
+-- the source's count of faults never falls, it rose where the source failed, and else it stayed
+pub record HasReadCause {T : Type 0} (before now : ℕ) (result : Result T ReadError) : Type 0 where
+  pub later : before ≤ now
+  pub failed : IfErr result (λ error. ReadCause error before now)
+  pub kept : OnOk result (now ≡ before)

@@ -1,5 +1,5 @@
 //! The two ends of a program: where its input comes from, and where its report goes.
-ghost use Rattle.std.specs.Prelude.{◌≡◌, ℕ, ◌<◌, List, Option, length, IfOk, is_some};
+ghost use Rattle.std.specs.Prelude.{◌≡◌, ℕ, ◌+◌, ◌<◌, ◌≤◌, List, Option, length, IfOk, is_some};
 ghost use Rattle.std.specs.Io.{ReadsAtMost, WritesAtMost};
 ghost use Rattle.std.specs.Io.KnownBytes.{ReadConsumes, WriteAppends};
 ghost use Rattle.devices.specs.Faults.{HasCause};
@@ -19,15 +19,20 @@ pub trait Source {
     /// How often it has failed.
     ghost faults: { Self → ℕ };
 
+    /// How often it was read, where the source counts that; else 0.
+    ghost calls: { Self → ℕ } = { λ _. 0 };
+
     /// Reads the next octets into the front of `buf`, and gives how many. For a `buf` that isn't
     /// empty, 0 means the end of the input.
     ///
     /// Fails where the device does; the octets to come are then as they were.
     fn read(&mut self, buf: &mut [u8]) -> Result<usize, Failed>
         ensures bound { ReadsAtMost result buf.new }
-        // The octets read are the next ones. 0 for a `buf` that isn't empty comes only where none is left.
+        // The octets read are the next ones. 0 for a `buf` that isn't empty comes only where none is
+        // left.
         ensures bytes { ReadConsumes (left self.old) (left self.new) result buf.new }
-        ensures tells { is_some (left self.new) ≡ is_some (left self.old) }
+        ensures keeps_telling { is_some (left self.new) ≡ is_some (left self.old) }
+        ensures counted { calls self.new ≤ calls self.old + 1 }
         ensures cause { HasCause (faults self.old) (faults self.new) result };
 }
 
@@ -47,6 +52,6 @@ pub trait Sink {
         ensures bound { WritesAtMost result bytes.now }
         ensures progress { IfOk result (λ count. 0 < length bytes.now → 0 < count) }
         ensures bytes { WriteAppends (held self.old) (held self.new) result bytes.now }
-        ensures tells { is_some (held self.new) ≡ is_some (held self.old) }
+        ensures keeps_telling { is_some (held self.new) ≡ is_some (held self.old) }
         ensures cause { HasCause (faults self.old) (faults self.new) result };
 }

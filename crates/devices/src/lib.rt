@@ -6,12 +6,10 @@ mod device;
 mod memory;
 mod standard;
 mod sure;
-#[cfg(test)]
-mod tests;
 mod transfer;
 
 pub use device::{Failed, Sink, Source};
 pub use memory::{MemorySink, MemorySource};
 pub use standard::{StdSink, StdSource};
 pub use sure::{SureSink, SureSource};
-pub use transfer::{MAX_INPUT, PIECE, ReadError, read_input, write_all};
+pub use transfer::{MAX_INPUT, ReadError, read_input, write_all};

@@ -10,7 +10,7 @@ use crate::device::{Failed, Sink, Source};
 use std::marker::Model;
 
 /// A source of octets in memory.
-#[derive(Drop)]
+#[derive(Debug, Drop)]
 pub struct MemorySource<'a> {
     bytes: &'a [u8],
     piece: usize,
@@ -61,10 +61,13 @@ impl Source for MemorySource<'_> {
 
     ghost faults = { λ s. s.faults };
 
+    ghost calls = { λ s. s.calls };
+
     fn read(&mut self, buf: &mut [u8]) -> Result<usize, Failed>
         ensures bound { ReadsAtMost result buf.new }
         ensures bytes { ReadConsumes (Some self.old.left) (Some self.new.left) result buf.new }
-        ensures tells { is_some (Some self.new.left) ≡ is_some (Some self.old.left) }
+        ensures keeps_telling { is_some (Some self.new.left) ≡ is_some (Some self.old.left) }
+        ensures counted { self.new.calls ≤ self.old.calls + 1 }
         ensures cause { HasCause self.old.faults self.new.faults result }
 
         ensures exactly { IsErr result ↔ ReadFails self.old }
@@ -89,7 +92,7 @@ impl Source for MemorySource<'_> {
 }
 
 /// A sink of octets in memory, with a fixed number of places.
-#[derive(Drop)]
+#[derive(Debug, Drop)]
 pub struct MemorySink<'a> {
     room: Vec<u8>,
     used: usize,
@@ -156,7 +159,7 @@ impl Sink for MemorySink<'_> {
         ensures bound { WritesAtMost result bytes.now }
         ensures progress { IfOk result (λ count. 0 < length bytes.now → 0 < count) }
         ensures bytes { WriteAppends (Some self.old.held) (Some self.new.held) result bytes.now }
-        ensures tells { is_some (Some self.new.held) ≡ is_some (Some self.old.held) }
+        ensures keeps_telling { is_some (Some self.new.held) ≡ is_some (Some self.old.held) }
         ensures cause { HasCause self.old.faults self.new.faults result }
 
         ensures exactly { IsErr result ↔ WriteFails self.old bytes.now }

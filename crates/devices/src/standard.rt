@@ -7,7 +7,7 @@ use std::io::{Read, Stdin, Stdout, Write};
 use std::marker::Model;
 
 /// The standard input, with a count of its faults.
-#[derive(Drop)]
+#[derive(Debug, Drop)]
 pub struct StdSource {
     input: Stdin,
     faults: u64,
@@ -45,7 +45,7 @@ impl Source for StdSource {
 }
 
 /// The standard output, with a count of its faults.
-#[derive(Drop)]
+#[derive(Debug, Drop)]
 pub struct StdSink {
     output: Stdout,
     faults: u64,

@@ -5,7 +5,7 @@ use crate::device::{Failed, Sink, Source};
 use std::marker::Model;
 
 /// A source of octets in memory that never fails.
-#[derive(Drop)]
+#[derive(Debug, Drop)]
 pub struct SureSource<'a> {
     bytes: &'a [u8],
 }
@@ -40,7 +40,7 @@ impl Source for SureSource<'_> {
 }
 
 /// A sink that takes every octet and keeps none.
-#[derive(Default, Drop)]
+#[derive(Debug, Default, Drop)]
 pub struct SureSink;
 
 impl SureSink {

@@ -1,20 +1,20 @@
 //! Reads a whole input, and writes a whole report.
-ghost use Rattle.std.specs.Prelude.{◌≡◌, ℕ, ◌+◌, ◌≤◌, List, length, take, IfOk, IfErr, OnOk, is_some, vec_len};
+ghost use Rattle.std.specs.Prelude.{◌≡◌, ℕ, ◌+◌, ◌≤◌, take, IfOk, OnOk, is_some, vec_len};
 ghost use Rattle.std.specs.Io.KnownBytes.{Appends, Consumes, IsAtEnd};
 ghost use Rattle.devices.specs.Faults.{HasCause};
-ghost use Rattle.devices.specs.Reading.{ReadCause};
-ghost use Rattle.devices.specs.Takes.{TakesAtMost, TakesFront};
+ghost use Rattle.devices.specs.Reading.{HasReadCause};
+ghost use Rattle.devices.specs.Takes.{TakesInput};
 ghost use Rattle.devices.specs.declared.transfer.ReadError.TheVariants as errors;
 
 use crate::device::{Failed, Sink, Source};
 use std::alloc::{AllocError, Global};
 use thiserror::Error;
 
-/// The most octets that an input may have.
+/// The most octets that an input may have: 16 MiB, a limit of this project's own.
 pub const MAX_INPUT: usize = 16_777_216;
 
-/// How many octets a read is asked for.
-pub const PIECE: usize = 65_536;
+/// The most octets that a read is asked for: 64 KiB, a size of this project's own.
+const PIECE: usize = 65_536;
 
 /// Why an input is not read.
 #[derive(Clone, Copy, Debug, PartialEq, Eq, Error)]
@@ -53,21 +53,18 @@ pub fn read_input<S: Source>(alloc: Global, source: &mut S) -> Result<Vec<u8>, R
         Consumes (S.left source.old) (S.left source.new) input.items) }
     ensures end { IfOk result (λ input. vec_len input ≤ MAX_INPUT → IsAtEnd (S.left source.new)) }
 
-    // Each read but the last begins with at most `MAX_INPUT` octets taken.
-    ensures bound { IfOk result (λ input. vec_len input ≤ MAX_INPUT + PIECE) }
-    ensures most { TakesAtMost (S.left source.old) (S.left source.new) (MAX_INPUT + PIECE) }
-    ensures front { TakesFront (S.left source.old) (S.left source.new) }
-    ensures tells { is_some (S.left source.new) ≡ is_some (S.left source.old) }
-
-    ensures later { S.faults source.old ≤ S.faults source.new }
-    ensures count { OnOk result (S.faults source.new ≡ S.faults source.old) }
-    ensures cause { IfErr result (λ error.
-        ReadCause error (S.faults source.old) (S.faults source.new)) }
+    // No read asks for more than one octet beyond `MAX_INPUT`, and each but the last gives one.
+    ensures bound { IfOk result (λ input. vec_len input ≤ MAX_INPUT + 1) }
+    ensures calls { IfOk result (λ input.
+        S.calls source.new ≤ S.calls source.old + vec_len input + 1) }
+    ensures takes { TakesInput (S.left source.old) (S.left source.new) (MAX_INPUT + 1) }
+    ensures cause { HasReadCause (S.faults source.old) (S.faults source.new) result }
 {
     let mut input = Vec::new(alloc);
     let mut piece = [0; PIECE];
     while input.len() <= MAX_INPUT {
-        let count = source.read(&mut piece)?;
+        let room = PIECE.min(MAX_INPUT + 1 - input.len());
+        let count = source.read(&mut piece[..room])?;
         if count == 0 {
             break;
         }
@@ -81,8 +78,9 @@ pub fn read_input<S: Source>(alloc: Global, source: &mut S) -> Result<Vec<u8>, R
 #[tactic(auto, using(crate::proofs::Pieces::appends_next))]
 pub fn write_all<K: Sink>(sink: &mut K, bytes: &[u8]) -> Result<(), Failed>
     ensures whole { OnOk result (Appends (K.held sink.old) (K.held sink.new) bytes.now) }
-    ensures part { (count : ℕ) × Appends (K.held sink.old) (K.held sink.new) (take count bytes.now) }
-    ensures tells { is_some (K.held sink.new) ≡ is_some (K.held sink.old) }
+    ensures part { (count : ℕ)
+        × Appends (K.held sink.old) (K.held sink.new) (take count bytes.now) }
+    ensures keeps_telling { is_some (K.held sink.new) ≡ is_some (K.held sink.old) }
     ensures cause { HasCause (K.faults sink.old) (K.faults sink.new) result }
 {
     let mut written = 0;

@@ -1,7 +1,7 @@
 -- Facts on the values that lines push.
 use Rattle.std.proofs.Common.{◌≡◌, ℕ, ◌+◌, List, [], ◌∷◌, ◌++◌, map, Option, Some, None, Result, Ok, Err, refl, sym, ap, ◌∙◌}
 use Rattle.std.proofs.lemmas.List.{append_assoc, append-nil, map-append}
-use Rattle.wire_spec.specs.Values.{Value}
+use Rattle.svcb_spec.specs.Values.{Value}
 use Rattle.svcbedit.specs.Pushes.{push_of}
 use Rattle.svcbedit.specs.Spelling.{needed, pushes_of, ◌>>=◌}
 use Rattle.svcbedit.specs.declared.spelling.InputFault.{InputFault}

@@ -3,11 +3,10 @@ use Rattle.std.specs.Prelude.{ℕ, ◌+◌, ◌^◌, nat_lt, nat_le, if◌then�
 use Rattle.std.specs.Fmt.{decimal}
 use Rattle.svcbedit.specs.declared.place.Place.{Place}
 use Rattle.svcbedit.specs.declared.spelling.InputFault.{InputFault}
-use Rattle.svcbedit.specs.declared.spelling.InputFault.TheVariants.{TooLong, BadLine, PlaceOutsideMessage, LimitTooLarge}
+use Rattle.svcbedit.specs.declared.spelling.InputFault.TheVariants.{BadLine, PlaceOutsideMessage, LimitTooLarge}
 
 -- what a report says of a fault
 abbrev pub fault_text : InputFault → List ℕ
-fault_text TooLong = codes "input too long"
 fault_text (BadLine number) = codes "bad line " ++ decimal number
 fault_text PlaceOutsideMessage = codes "place outside message"
 fault_text LimitTooLarge = codes "limit too large"

@@ -7,6 +7,9 @@ pub mod Spelling
 pub mod SpellingView
 pub mod Report
 pub mod ReportView
+pub mod Edit
 pub mod Words
+pub mod Commands
 pub mod Stops
 pub mod Run
+pub mod Devices

@@ -1,7 +1,7 @@
 -- The first line of an input of `edit`.
 use Rattle.std.specs.Prelude.{ℕ, Option, Some, None, List, [], ◌∷◌}
 use Rattle.svcbedit.specs.Lines.{words}
-use Rattle.svcbedit.specs.Numbers.{number_of}
+use Rattle.svcbedit.specs.Numbers.{decimal_number}
 use Rattle.svcbedit.specs.declared.place.Place.{Place}
 
 -- the next step, where the step before it gave a value
@@ -13,9 +13,9 @@ None >>= f = None
 -- three numbers
 abbrev pub place_of_words : List (List ℕ) → Option Place
 place_of_words (start ∷ len ∷ limit ∷ []) = do
-  first ← number_of start
-  count ← number_of len
-  most ← number_of limit
+  first ← decimal_number start
+  count ← decimal_number len
+  most ← decimal_number limit
   Some (record { start = first; len = count; limit = most })
 place_of_words _ = None
 

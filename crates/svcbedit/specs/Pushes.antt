@@ -3,22 +3,22 @@ use Rattle.std.specs.Prelude.{ℕ, Option, Some, None, List, [], ◌∷◌, leng
 use Rattle.std.specs.Result.{result_ok}
 use Rattle.std.specs.Str.{bytes_eq}
 use Rattle.hex.specs.Hex.{decode_of}
-use Rattle.wire_spec.specs.Values.{Value, Unknown}
+use Rattle.svcb_spec.specs.Values.{Value, Unknown}
 use Rattle.svcbedit.specs.Lines.{words}
-use Rattle.svcbedit.specs.Numbers.{number_of}
+use Rattle.svcbedit.specs.Numbers.{decimal_number}
 use Rattle.svcbedit.specs.Places.{◌>>=◌}
 
 -- the octets of an even count of hexadecimal digits, in either case
-abbrev pub octets_of : List ℕ → Option (List ℕ)
-octets_of text = result_ok (decode_of text)
+abbrev pub hexadecimal_octets : List ℕ → Option (List ℕ)
+hexadecimal_octets text = result_ok (decode_of text)
 
 -- a number of at most 65,535
-abbrev pub key_of : List ℕ → Option ℕ
-key_of text = number_of text >>= λ key. if nat_le key 65535 then Some key else None
+abbrev pub key_in_text : List ℕ → Option ℕ
+key_in_text text = decimal_number text >>= λ key. if nat_le key 65535 then Some key else None
 
 -- one octet or more, and at most 65,535
 abbrev pub value_octets : List ℕ → Option (List ℕ)
-value_octets text = octets_of text >>= λ octets.
+value_octets text = hexadecimal_octets text >>= λ octets.
     if length octets == 0 then None
     else if nat_lt 65535 (length octets) then None
     else Some octets
@@ -30,8 +30,8 @@ raw_value key (Some hex) = value_octets hex >>= λ octets. Some (Unknown key oct
 
 -- `KEY`, or `KEY HEX`
 abbrev pub raw_of_words : List (List ℕ) → Option Value
-raw_of_words (key ∷ []) = key_of key >>= λ number. raw_value number None
-raw_of_words (key ∷ hex ∷ []) = key_of key >>= λ number. raw_value number (Some hex)
+raw_of_words (key ∷ []) = key_in_text key >>= λ number. raw_value number None
+raw_of_words (key ∷ hex ∷ []) = key_in_text key >>= λ number. raw_value number (Some hex)
 raw_of_words _ = None
 
 -- `raw`, and one of those

@@ -1,23 +1,10 @@
 -- How the program ends.
-use Rattle.std.specs.Prelude.{◌≡◌, ◌<◌, ◌≤◌, ℕ, List, Option, Some, None, Result, Ok, Err, take, IfSome}
-use Rattle.std.specs.Option.{option_map}
+use Rattle.std.specs.Prelude.{◌≡◌, ◌≢◌, ◌<◌, ◌≤◌, ℕ, List, Option, Some, None, Result, Ok, Err, take, IfOk, IfSome, MatchResult}
 use Rattle.std.specs.Io.KnownBytes.{Appends, Keeps}
-use Rattle.svcbedit.specs.Report.{Answer, edited, no_command}
+use Rattle.svcbedit.specs.Report.{Answer}
 use Rattle.svcbedit.specs.declared.words.Command.{Command}
-use Rattle.svcbedit.specs.declared.words.Command.TheVariants.{Edit}
 use Rattle.svcbedit.specs.declared.stop.Stop.{Stop}
 use Rattle.svcbedit.specs.declared.stop.Stop.TheVariants.{ReadFault, WriteFault, NoMemory}
-
--- The answer that is due to a command, by what the source has left: none is known where the source doesn't tell.
--- Words that are no command have an answer of their own.
-abbrev pub due : Option Command → Option (List ℕ) → Option Answer
-due None left = Some no_command
-due (Some Edit) left = option_map edited left
-
--- the words name a command that reads the input
-abbrev pub ReadsInput : Option Command → Type 0
-ReadsInput None = ⊥
-ReadsInput (Some Edit) = Unit {0}
 
 -- the whole report was written
 abbrev pub Whole : Answer → Option (List ℕ) → Option (List ℕ) → Type 0
@@ -49,8 +36,19 @@ abbrev pub Performs : Result ℕ Stop → Option Answer → Option (List ℕ) �
 Performs (Ok status) answer old new = (status < 4) × IfSome answer (λ a. (status ≡ a.status) × Whole a old new)
 Performs (Err stop) answer old new = Stops stop answer old new
 
--- words that are no command stop the program only where a write failed
+-- a write failed, which alone stops the program at words that are no command
 abbrev pub IsWriteFault : Stop → Type 0
 IsWriteFault ReadFault = ⊥
 IsWriteFault WriteFault = Unit {0}
 IsWriteFault NoMemory = ⊥
+
+-- no write failed, since none was tried
+abbrev pub IsNoWriteFault : Stop → Type 0
+IsNoWriteFault ReadFault = Unit {0}
+IsNoWriteFault WriteFault = ⊥
+IsNoWriteFault NoMemory = Unit {0}
+
+-- The status is 1 for words that are no command, and for no others. Before such words only a write may fail.
+abbrev pub TellsCommand : Option Command → Result ℕ Stop → Type 0
+TellsCommand None result = MatchResult result (λ status. status ≡ 1) IsWriteFault
+TellsCommand (Some command) result = IfOk result (λ status. status ≢ 1)

@@ -1,12 +1,12 @@
 -- What an input of `edit` spells.
-use Rattle.std.specs.Prelude.{ℕ, ◌≡◌, ◌+◌, nat_lt, if◌then◌else◌, Option, Some, None, Result, Ok, Err, List, [], ◌∷◌, length, drop, slice_get, option_and_then}
-use Rattle.wire_spec.specs.Values.{Value}
+use Rattle.std.specs.Prelude.{ℕ, ◌≡◌, ◌+◌, Option, Some, None, Result, Ok, Err, List, [], ◌∷◌, length, drop, slice_get, option_and_then}
+use Rattle.svcb_spec.specs.Values.{Value}
 use Rattle.svcbedit.specs.Faults.{place_fault}
 use Rattle.svcbedit.specs.Lines.{lines}
 use Rattle.svcbedit.specs.Places.{place_of}
-use Rattle.svcbedit.specs.Pushes.{octets_of, push_of}
+use Rattle.svcbedit.specs.Pushes.{hexadecimal_octets, push_of}
 use Rattle.svcbedit.specs.declared.spelling.InputFault.{InputFault}
-use Rattle.svcbedit.specs.declared.spelling.InputFault.TheVariants.{TooLong, BadLine}
+use Rattle.svcbedit.specs.declared.spelling.InputFault.TheVariants.{BadLine}
 use Rattle.svcbedit.specs.declared.spelling.SpellError.{SpellError}
 use Rattle.svcbedit.specs.declared.spelling.SpellError.TheVariants.{Fault, NoMemory}
 
@@ -46,19 +46,19 @@ unless None next = next
 abbrev pub spelled_lines : List (List ℕ) → Result Spelled InputFault
 spelled_lines all = do
   place ← needed 1 (option_and_then place_of (slice_get all 0))
-  message ← needed 2 (option_and_then octets_of (slice_get all 1))
+  message ← needed 2 (option_and_then hexadecimal_octets (slice_get all 1))
   pushes ← unless (place_fault place (length message)) (pushes_of 3 (drop 2 all))
   Ok (record { message = message; start = place.start; len = place.len; limit = place.limit; pushes = pushes })
 
--- what an input spells, or its first fault
+-- what an input that isn't too long spells, or its first fault
 abbrev pub spelled : List ℕ → Result Spelled InputFault
-spelled bytes = if nat_lt 16777216 (length bytes) then Err TooLong else spelled_lines (lines bytes)
+spelled bytes = spelled_lines (lines bytes)
 
 -- A reader of the code answers, seen by `view`, what a definition gives. Want of memory says nothing of the input.
 abbrev pub IsFault : {Y : Type 0} → SpellError → Result Y InputFault → Type 0
 IsFault (Fault fault) given = given ≡ Err fault
 IsFault NoMemory given = Unit {0}
 
-abbrev pub Gives : {X Y : Type 0} → (X → Y) → Result X SpellError → Result Y InputFault → Type 0
-Gives view (Ok x) given = given ≡ Ok (view x)
-Gives view (Err error) given = IsFault error given
+abbrev pub SpellsAs : {X Y : Type 0} → (X → Y) → Result X SpellError → Result Y InputFault → Type 0
+SpellsAs view (Ok x) given = given ≡ Ok (view x)
+SpellsAs view (Err error) given = IsFault error given

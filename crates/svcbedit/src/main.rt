@@ -1,11 +1,17 @@
 //! Edits the parameters of SVCB record data, from the standard input to the standard output.
 #![tactic(auto)]
 
+ghost use Rattle.std.specs.Prelude.{◌≡◌};
+ghost use Rattle.svcbedit.specs.Stops.{status_without_words};
+
 use devices::{StdSink, StdSource};
-use run::{NO_MEMORY, run};
+use run::run;
 use std::process::ExitCode;
 use std::{env, io};
+use stop::Stop;
 
+mod commands;
+mod edit;
 mod hexadecimal;
 mod lines;
 mod numbers;
@@ -19,12 +25,19 @@ mod stop;
 mod tests;
 mod words;
 
-/// The status where the system refuses the words for any cause but want of memory.
-const NO_WORDS: u8 = 7;
-
 /// The words after the program's name.
 fn given_words(rt: &HostRuntime) -> io::Result<Vec<String>> {
     Ok(env::args(rt)?.skip(1).collect(rt.alloc())?)
+}
+
+/// The status where the system refuses the words: that of want of memory, and else one that no run gives.
+fn status_without_words(kind: io::ErrorKind) -> u8
+    ensures { result ≡ status_without_words kind }
+{
+    match kind {
+        io::ErrorKind::OutOfMemory => Stop::NoMemory.status(),
+        _ => 7,
+    }
 }
 
 fn main(rt: HostRuntime) -> ExitCode {
@@ -34,8 +47,7 @@ fn main(rt: HostRuntime) -> ExitCode {
             let mut sink = StdSink::new(rt.stdout());
             run(rt.alloc(), &words, &mut source, &mut sink)
         }
-        Err(error) if error.kind() == io::ErrorKind::OutOfMemory => NO_MEMORY,
-        Err(_) => NO_WORDS,
+        Err(error) => status_without_words(error.kind()),
     };
     ExitCode::from(status)
 }

@@ -1,6 +1,6 @@
 //! Decimal numbers.
 ghost use Rattle.std.specs.Prelude.{◌≡◌};
-ghost use Rattle.svcbedit.specs.Numbers.{number_of};
+ghost use Rattle.svcbedit.specs.Numbers.{decimal_number};
 
 use std::str;
 
@@ -9,7 +9,7 @@ const MAX_DIGITS: usize = 10;
 
 /// Reads one to ten digits, of a number that fits 32 bits.
 pub fn number(text: &[u8]) -> Option<u32>
-    ensures { result ≡ number_of text.now }
+    ensures { result ≡ decimal_number text.now }
 {
     match str::from_utf8(text) {
         Ok(text) => number_in(text),
@@ -19,7 +19,7 @@ pub fn number(text: &[u8]) -> Option<u32>
 
 /// Reads a number from a text. std's `parse` takes a leading `+`, which is no digit.
 fn number_in(text: &str) -> Option<u32>
-    ensures { result ≡ number_of text.now }
+    ensures { result ≡ decimal_number text.now }
 {
     if text.len() > MAX_DIGITS || text.starts_with('+') {
         return None;

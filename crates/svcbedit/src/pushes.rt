@@ -1,9 +1,9 @@
 //! The lines of an input of `edit` that push a value.
 ghost use Rattle.std.specs.Prelude.{◌≡◌, ◌<◌, ◌≤◌, length, IfOk, MatchOption};
 ghost use Rattle.std.specs.Option.{option_map, option_copied};
-ghost use Rattle.wire_spec.specs.Values.{Unknown};
+ghost use Rattle.svcb_spec.specs.Values.{Unknown};
 ghost use Rattle.svcb_text.specs.AllValues.{value_of};
-ghost use Rattle.svcbedit.specs.Pushes.{key_of, value_octets, raw_value, push_of};
+ghost use Rattle.svcbedit.specs.Pushes.{key_in_text, value_octets, raw_value, push_of};
 
 use crate::hexadecimal::octets_in;
 use crate::lines::Pieces;
@@ -21,7 +21,7 @@ struct RawLine<'a> {
 
 /// Reads a key.
 fn key_in(text: &[u8]) -> Option<u16>
-    ensures { result ≡ key_of text.now }
+    ensures { result ≡ key_in_text text.now }
 {
     u16::try_from(number(text)?).ok()
 }
@@ -68,7 +68,7 @@ fn raw_param(alloc: Global, raw: RawLine<'_>) -> Result<Option<AllValues>, NoMem
     }
 }
 
-/// Reads `raw KEY` or `raw KEY HEX`.
+/// Reads `raw KEY` or `raw KEY HEX`. Refused for want of memory alone.
 pub fn push_in(alloc: Global, line: &[u8]) -> Result<Option<AllValues>, NoMemory>
     ensures { IfOk result (λ push. option_map value_of push ≡ push_of line.now) }
 {

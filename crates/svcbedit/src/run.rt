@@ -1,88 +1,51 @@
 //! The program, over any source and any sink.
-ghost use Rattle.std.specs.Prelude.{◌≡◌, ◌≢◌, ◌+◌, ◌<◌, ◌≤◌, ◌⊎◌, ℕ, List, Some, None, length, is_some, IfOk, IfErr, OnOk, IfSome, IsSome, MatchResult};
-ghost use Rattle.std.specs.Option.{option_map};
+ghost use Rattle.std.specs.Prelude.{◌≡◌, ◌≢◌, ◌+◌, ◌<◌, ◌≤◌, ◌⊎◌, length, is_some, Some, None, IfOk, IfErr, IfSome, IsSome, IsTrue, MatchResult};
+ghost use Rattle.std.specs.Bool.{OnFalse};
 ghost use Rattle.std.specs.Io.KnownBytes.{IsAtEnd};
 ghost use Rattle.devices.specs.Faults.{Rose};
 ghost use Rattle.devices.specs.Takes.{TakesAtMost, TakesFront};
-ghost use Rattle.svcbedit.specs.Words.{command_of};
-ghost use Rattle.svcbedit.specs.Report.{edited, no_command};
+ghost use Rattle.svcbedit.specs.Commands.{due, reads, reads_input};
+ghost use Rattle.svcbedit.specs.Devices.{Draws, Reports};
 ghost use Rattle.svcbedit.specs.ReportView.{answer_view};
-ghost use Rattle.svcbedit.specs.Run.{due, ReadsInput, Ends, Whole, Performs, IsWriteFault};
-ghost use Rattle.svcbedit.specs.Stops.{InputCause, SourceCause, SinkCause};
+ghost use Rattle.svcbedit.specs.Run.{Ends, Whole, TellsCommand, IsWriteFault, IsNoWriteFault};
+ghost use Rattle.svcbedit.specs.Words.{command_of};
 
-use crate::report::{Answer, edit_answer};
+use crate::commands::command_answer;
+use crate::report::Answer;
 use crate::stop::Stop;
 use crate::words::{Command, command_in};
-use devices::{MAX_INPUT, PIECE, Sink, Source, read_input, write_all};
+use devices::{MAX_INPUT, Sink, Source, read_input, write_all};
 use std::alloc::Global;
 
 /// The status of words that are no command.
 const UNKNOWN_COMMAND: u8 = 1;
 
-/// The status where a read failed.
-const READ_FAULT: u8 = 4;
-
-/// The status where a write failed.
-const WRITE_FAULT: u8 = 5;
-
-/// The status where there is no memory.
-pub const NO_MEMORY: u8 = 6;
-
 /// The report on words that are no command. It stands ready, so that no memory is taken for it.
 const NO_COMMAND: &str = "refused: unknown command\n";
 
-/// Reads the input of `edit`, and gives the answer to it.
-fn edit<S: Source>(alloc: Global, source: &mut S) -> Result<Answer, Stop>
-    ensures answer { IfOk result (λ answer. IfSome (S.left source.old) (λ bytes.
-        answer_view answer ≡ edited bytes)) }
-    ensures status { IfOk result (λ answer. (answer.status < 4) × (answer.status ≢ 1)) }
-    ensures end { OnOk result (IfSome (S.left source.old) (λ bytes.
-        length bytes ≤ MAX_INPUT → IsAtEnd (S.left source.new))) }
-    ensures most { TakesAtMost (S.left source.old) (S.left source.new) (MAX_INPUT + PIECE) }
-    ensures front { TakesFront (S.left source.old) (S.left source.new) }
-    ensures tells { is_some (S.left source.new) ≡ is_some (S.left source.old) }
-    ensures count { OnOk result (S.faults source.new ≡ S.faults source.old) }
-    ensures cause { IfErr result (λ stop. InputCause stop (S.faults source.old) (S.faults source.new)) }
+/// Reads the input of a command that reads one, and gives the command's answer.
+fn answer<S: Source>(alloc: Global, command: Command, source: &mut S) -> Result<Answer, Stop>
+    ensures answer { IfOk result (λ answer. IfSome (due (Some command) (S.left source.old))
+        (λ known. answer_view answer ≡ known)) }
+    ensures cause { IfErr result IsNoWriteFault }
+    ensures source { Draws (reads command) S.left S.faults source.old source.new result }
 {
+    if !command.reads_input() {
+        return Ok(command_answer(alloc, command, &[])?);
+    }
     let input = read_input(alloc, source)?;
-    Ok(edit_answer(alloc, &input)?)
+    Ok(command_answer(alloc, command, &input)?)
 }
 
-/// Says that the words are no command.
-fn refuse_words<K: Sink>(sink: &mut K) -> Result<u8, Stop>
-    ensures performs { Performs result (Some no_command) (K.held sink.old) (K.held sink.new) }
-    ensures stop { IfErr result IsWriteFault }
-    ensures tells { is_some (K.held sink.new) ≡ is_some (K.held sink.old) }
-    ensures count { MatchResult result
-        (λ _. K.faults sink.new ≡ K.faults sink.old)
-        (λ stop. SinkCause stop (K.faults sink.old) (K.faults sink.new)) }
+/// Writes a report, and gives its status.
+fn report<K: Sink>(sink: &mut K, status: u8, text: &str) -> Result<u8, Stop>
+    requires { status < 4 }
+    ensures status { MatchResult result (λ given. given ≡ status) IsWriteFault }
+    ensures sink { Reports K.held K.faults sink.old sink.new
+        (Some (record { status = status; report = text.now })) result }
 {
-    write_all(sink, NO_COMMAND.as_bytes())?;
-    Ok(UNKNOWN_COMMAND)
-}
-
-/// Writes the answer to the input of `edit`.
-fn answer_input<S: Source, K: Sink>(alloc: Global, source: &mut S, sink: &mut K) -> Result<u8, Stop>
-    ensures performs { Performs result
-        (option_map edited (S.left source.old))
-        (K.held sink.old) (K.held sink.new) }
-    ensures known { IfOk result (λ status. status ≢ 1) }
-    ensures end { OnOk result (IfSome (S.left source.old) (λ bytes.
-        length bytes ≤ MAX_INPUT → IsAtEnd (S.left source.new))) }
-    ensures most { TakesAtMost (S.left source.old) (S.left source.new) (MAX_INPUT + PIECE) }
-    ensures front { TakesFront (S.left source.old) (S.left source.new) }
-    ensures source_tells { is_some (S.left source.new) ≡ is_some (S.left source.old) }
-    ensures sink_tells { is_some (K.held sink.new) ≡ is_some (K.held sink.old) }
-    ensures source_count { MatchResult result
-        (λ _. S.faults source.new ≡ S.faults source.old)
-        (λ stop. SourceCause stop (S.faults source.old) (S.faults source.new)) }
-    ensures sink_count { MatchResult result
-        (λ _. K.faults sink.new ≡ K.faults sink.old)
-        (λ stop. SinkCause stop (K.faults sink.old) (K.faults sink.new)) }
-{
-    let answer = edit(alloc, source)?;
-    write_all(sink, answer.report.as_bytes())?;
-    Ok(answer.status)
+    write_all(sink, text.as_bytes())?;
+    Ok(status)
 }
 
 /// Runs the command that the words name.
@@ -92,32 +55,24 @@ fn perform<S: Source, K: Sink>(
     source: &mut S,
     sink: &mut K,
 ) -> Result<u8, Stop>
-    ensures performs { Performs result
-        (due (command_of words.now) (S.left source.old))
-        (K.held sink.old) (K.held sink.new) }
-    ensures unknown { command_of words.now ≡ None
-        → (source.new ≡ source.old) × MatchResult result (λ status. status ≡ 1) IsWriteFault }
-    ensures known { IsSome (command_of words.now) → IfOk result (λ status. status ≢ 1) }
-    ensures end { ReadsInput (command_of words.now) → OnOk result (IfSome (S.left source.old)
-        (λ bytes. length bytes ≤ MAX_INPUT → IsAtEnd (S.left source.new))) }
-    ensures most { TakesAtMost (S.left source.old) (S.left source.new) (MAX_INPUT + PIECE) }
-    ensures front { TakesFront (S.left source.old) (S.left source.new) }
-    ensures source_tells { is_some (S.left source.new) ≡ is_some (S.left source.old) }
-    ensures sink_tells { is_some (K.held sink.new) ≡ is_some (K.held sink.old) }
-    ensures source_count { MatchResult result
-        (λ _. S.faults source.new ≡ S.faults source.old)
-        (λ stop. SourceCause stop (S.faults source.old) (S.faults source.new)) }
-    ensures sink_count { MatchResult result
-        (λ _. K.faults sink.new ≡ K.faults sink.old)
-        (λ stop. SinkCause stop (K.faults sink.old) (K.faults sink.new)) }
+    ensures status { TellsCommand (command_of words.now) result }
+    ensures source { Draws (reads_input (command_of words.now))
+        S.left S.faults source.old source.new result }
+    ensures sink { Reports K.held K.faults sink.old sink.new
+        (due (command_of words.now) (S.left source.old)) result }
 {
-    match command_in(words) {
-        Some(Command::Edit) => answer_input(alloc, source, sink),
-        None => refuse_words(sink),
-    }
+    let Some(command) = command_in(words) else {
+        return report(sink, UNKNOWN_COMMAND, NO_COMMAND);
+    };
+    let answer = answer(alloc, command, source)?;
+    report(sink, answer.outcome.status(), answer.report.as_str())
 }
 
 /// Runs the program, and gives the status that it ends with. The words are those after the program's name.
+///
+/// 0: the command was done. 1: the words are no command, and nothing is read. 2: the input has a fault of form. 3: the
+/// input is well formed, and what it asks for can't be done. 4: a read failed, and nothing is written. 5: a write
+/// failed, and a front of the report is written. 6: want of memory, and nothing is written.
 ///
 /// The whole report is made before the first write. Want of memory may come wherever memory is taken, but never for
 /// words that are no command, nor where a device failed.
@@ -127,20 +82,22 @@ pub fn run<S: Source, K: Sink>(alloc: Global, words: &[String], source: &mut S, 
         (due (command_of words.now) (S.left source.old))
         (K.held sink.old) (K.held sink.new) }
 
-    // Words that are no command are refused, and no others are. Then nothing is read, and no memory is taken.
+    // Words that are no command are refused, and no others are. No memory is taken then.
     ensures unknown { command_of words.now ≡ None → (result ≡ 1) ⊎ (result ≡ 5) }
     ensures known { IsSome (command_of words.now) → result ≢ 1 }
-    ensures unread { command_of words.now ≡ None → source.new ≡ source.old }
 
-    // A command that reads takes all that an input may have, and whatever the status at most a piece beyond it.
-    ensures end { ReadsInput (command_of words.now) → result < 4 → IfSome (S.left source.old)
+    // Only a command that reads does so. It takes all that an input may have, and whatever the status
+    // at most one octet beyond it.
+    ensures unread { OnFalse (reads_input (command_of words.now)) (source.new ≡ source.old) }
+    ensures end { IsTrue (reads_input (command_of words.now)) → result < 4 →
+        IfSome (S.left source.old)
         (λ bytes. length bytes ≤ MAX_INPUT → IsAtEnd (S.left source.new)) }
-    ensures most { TakesAtMost (S.left source.old) (S.left source.new) (MAX_INPUT + PIECE) }
+    ensures most { TakesAtMost (S.left source.old) (S.left source.new) (MAX_INPUT + 1) }
     ensures front { TakesFront (S.left source.old) (S.left source.new) }
 
     // A device that tells its octets goes on to tell them.
-    ensures source_tells { is_some (S.left source.new) ≡ is_some (S.left source.old) }
-    ensures sink_tells { is_some (K.held sink.new) ≡ is_some (K.held sink.old) }
+    ensures source_keeps_telling { is_some (S.left source.new) ≡ is_some (S.left source.old) }
+    ensures sink_keeps_telling { is_some (K.held sink.new) ≡ is_some (K.held sink.old) }
 
     // Where neither device fails, the answer that is due is given, or memory is wanting.
     ensures complete { ¬ (Rose (S.faults source.old) (S.faults source.new))
@@ -148,7 +105,8 @@ pub fn run<S: Source, K: Sink>(alloc: Global, words: &[String], source: &mut S, 
         → IfSome (due (command_of words.now) (S.left source.old)) (λ answer. (result ≡ 6)
         ⊎ ((result ≡ answer.status) × Whole answer (K.held sink.old) (K.held sink.new))) }
 
-    // A fault is answered only where the device's count of faults rose; each other status leaves that count.
+    // A fault is answered only where the device's count of faults rose; each other status leaves that
+    // count.
     ensures read_fault { result ≡ 4 → Rose (S.faults source.old) (S.faults source.new) }
     ensures write_fault { result ≡ 5 → Rose (K.faults sink.old) (K.faults sink.new) }
     ensures reads { result ≢ 4 → S.faults source.new ≡ S.faults source.old }
@@ -156,8 +114,6 @@ pub fn run<S: Source, K: Sink>(alloc: Global, words: &[String], source: &mut S, 
 {
     match perform(alloc, words, source, sink) {
         Ok(status) => status,
-        Err(Stop::ReadFault) => READ_FAULT,
-        Err(Stop::WriteFault) => WRITE_FAULT,
-        Err(Stop::NoMemory) => NO_MEMORY,
+        Err(stop) => stop.status(),
     }
 }

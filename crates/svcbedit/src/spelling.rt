@@ -3,9 +3,9 @@ ghost use Rattle.std.specs.Prelude.{◌≡◌, ◌+◌, ◌^◌, ◌<◌, ◌≤
 ghost use Rattle.svcb_text.specs.AllValues.{value_of};
 ghost use Rattle.svcbedit.specs.Lines.{lines};
 ghost use Rattle.svcbedit.specs.Places.{place_of};
-ghost use Rattle.svcbedit.specs.Pushes.{octets_of};
+ghost use Rattle.svcbedit.specs.Pushes.{hexadecimal_octets};
 ghost use Rattle.svcbedit.specs.Faults.{fault_text, place_fault};
-ghost use Rattle.svcbedit.specs.Spelling.{needed, pushes_of, spelled, Gives};
+ghost use Rattle.svcbedit.specs.Spelling.{needed, pushes_of, spelled, SpellsAs};
 ghost use Rattle.svcbedit.specs.SpellingView.{spelled_view};
 ghost use Rattle.svcbedit.specs.declared.spelling.SpellError.TheVariants as errors;
 
@@ -29,8 +29,6 @@ const FIRST_PUSH: u64 = 3;
 /// A fault of form in an input.
 #[derive(Clone, Copy, Debug, PartialEq, Eq)]
 pub enum InputFault {
-    /// The input has more than 16,777,216 octets.
-    TooLong,
     /// The line of this number, from 1 on, is missing or bad.
     BadLine(u64),
     /// The place ends behind the message.
@@ -44,7 +42,6 @@ impl fmt::Display for InputFault {
 
     fn fmt<W: fmt::Write>(&self, f: &mut fmt::Formatter<W>) -> fmt::Result {
         match self {
-            InputFault::TooLong => write!(f, "input too long"),
             InputFault::BadLine(number) => write!(f, "bad line {number}"),
             InputFault::PlaceOutsideMessage => write!(f, "place outside message"),
             InputFault::LimitTooLarge => write!(f, "limit too large"),
@@ -108,16 +105,13 @@ fn place_line(input: &mut Lines<'_>) -> Result<Place, InputFault>
 
 /// Reads the second line.
 fn message_line(alloc: Global, input: &mut Lines<'_>) -> Result<Octets, SpellError>
-    ensures value { Gives (λ message. message) result (needed 2 (option_and_then octets_of (slice_get input.old 0))) }
+    ensures value { SpellsAs (λ message. message) result
+        (needed 2 (option_and_then hexadecimal_octets (slice_get input.old 0))) }
     ensures rest { input.new ≡ drop 1 input.old }
 {
-    let Some(line) = input.next() else {
-        return Err(SpellError::Fault(InputFault::BadLine(2)));
-    };
-    match octets_in(alloc, line)? {
-        Some(message) => Ok(message),
-        None => Err(SpellError::Fault(InputFault::BadLine(2))),
-    }
+    let line = input.next().ok_or(InputFault::BadLine(2))?;
+    let message = octets_in(alloc, line)?;
+    Ok(message.ok_or(InputFault::BadLine(2))?)
 }
 
 /// Tests a place in a message of so many octets, and its limit.
@@ -138,7 +132,7 @@ fn check_place(place: &Place, message_len: usize) -> Result<(), InputFault>
 /// Reads the lines from the third on.
 fn push_lines(alloc: Global, mut input: Lines<'_>) -> Result<Vec<AllValues>, SpellError>
     requires { length input < 2 ^ 32 }
-    ensures { Gives (λ pushes. map value_of pushes.items) result (pushes_of 3 input.entry) }
+    ensures { SpellsAs (λ pushes. map value_of pushes.items) result (pushes_of 3 input.entry) }
 {
     let mut pushes = Vec::new(alloc);
     let mut number = FIRST_PUSH;
@@ -152,15 +146,13 @@ fn push_lines(alloc: Global, mut input: Lines<'_>) -> Result<Vec<AllValues>, Spe
     Ok(pushes)
 }
 
-/// Reads an input of `edit`.
+/// Reads an input of `edit`. `Fault` is the first fault of form in it, and `NoMemory` want of memory for what it spells.
 pub fn read_spelling(alloc: Global, input: &[u8]) -> Result<Spelling, SpellError>
-    ensures value { Gives spelled_view result (spelled input.now) }
+    requires { length input.now ≤ MAX_INPUT }
+    ensures value { SpellsAs spelled_view result (spelled input.now) }
     ensures within { IfOk result (λ s. s.place.start + s.place.len ≤ length s.message) }
     ensures limit { IfOk result (λ s. s.place.limit < 2 ^ 31) }
 {
-    if input.len() > MAX_INPUT {
-        return Err(SpellError::Fault(InputFault::TooLong));
-    }
     let mut lines = Lines::new(input);
     let place = place_line(&mut lines)?;
     let message = message_line(alloc, &mut lines)?;

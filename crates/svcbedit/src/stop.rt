@@ -1,4 +1,7 @@
 //! Why the program ends with no report, or with a part of it.
+ghost use Rattle.std.specs.Prelude.{◌≡◌};
+ghost use Rattle.svcbedit.specs.Stops.{stop_status};
+
 use devices::{Failed, ReadError};
 use thiserror::Error;
 use wire_base::NoMemory;
@@ -15,6 +18,19 @@ pub enum Stop {
     /// There is no memory, and nothing was written.
     #[error("want of memory")]
     NoMemory,
+}
+
+impl Stop {
+    /// The status: 4, 5 or 6.
+    pub fn status(self) -> u8
+        ensures { result ≡ stop_status self }
+    {
+        match self {
+            Stop::ReadFault => 4,
+            Stop::WriteFault => 5,
+            Stop::NoMemory => 6,
+        }
+    }
 }
 
 impl From<ReadError> for Stop {

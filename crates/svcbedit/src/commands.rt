@@ -1,0 +1,25 @@
+//! What each command answers.
+ghost use Rattle.std.specs.Prelude.{◌≡◌, IfOk};
+ghost use Rattle.svcbedit.specs.Commands.{answer_to};
+ghost use Rattle.svcbedit.specs.ReportView.{answer_view};
+
+use crate::edit::edit_answer;
+use crate::report::{Answer, Outcome, text_answer};
+use crate::words::Command;
+use devices::MAX_INPUT;
+use std::alloc::Global;
+use wire_base::NoMemory;
+
+/// The answer of a command to its input. A command that reads none is given an empty one. Refused for want of memory
+/// alone.
+#[tactic(auto, unfolding(crate::specs::Commands::answer_of))]
+pub fn command_answer(alloc: Global, command: Command, input: &[u8]) -> Result<Answer, NoMemory>
+    ensures { IfOk result (λ answer. answer_view answer ≡ answer_to command input.now) }
+{
+    if input.len() > MAX_INPUT {
+        return text_answer(alloc, Outcome::BadInput, "refused: input too long\n");
+    }
+    match command {
+        Command::Edit => edit_answer(alloc, input),
+    }
+}
