@@ -1,0 +1,11 @@
+//! Tests of the values of service parameters.
+#![tactic(auto)]
+
+#[cfg(test)]
+mod all_values;
+#[cfg(test)]
+mod lists;
+#[cfg(test)]
+mod values;
+#[cfg(test)]
+mod weight;
