@@ -1,0 +1,41 @@
+//! Where to connect, as an HTTPS record says it.
+
+ghost use Rattle.std.specs.Prelude.{◌≡◌, option_map, IfOk};
+ghost use Rattle.svcb_spec.specs.Values as values;
+ghost use Rattle.svcb_params.specs.Items.{typed_at};
+
+use crate::weight::Weight;
+use std::alloc::{AllocError, Global};
+use svcb_rdata::{HttpsVariant, SvcbRef};
+use svcb_value::Port;
+use wire_base::Ipv4Addr;
+
+/// What a client takes from a record in service mode.
+#[derive(Debug, Drop)]
+pub struct Endpoint {
+    /// The port, where the record names one.
+    pub port: Option<Port>,
+    /// Addresses to try before those of the target are looked up (RFC 9460, section 7.3).
+    pub ipv4_hints: Vec<Ipv4Addr>,
+    /// The weight, a value of this example's own.
+    pub weight: Option<Weight>,
+}
+
+impl Endpoint {
+    /// Reads the parameters, whose values are typed. A value that its type refuses is as good as absent.
+    pub fn new(alloc: Global, found: &SvcbRef<'_, HttpsVariant>) -> Result<Endpoint, AllocError>
+        ensures { IfOk result (λ endpoint.
+            option_map values.Port endpoint.port ≡ typed_at 3 found.now.pairs) }
+    {
+        let params = found.params();
+        let mut ipv4_hints = Vec::new(alloc);
+        if let Some(hint) = params.ipv4hint() {
+            ipv4_hints = hint.iter().collect(alloc)?;
+        }
+        Ok(Endpoint {
+            port: params.port(),
+            ipv4_hints,
+            weight: params.first::<Weight>(),
+        })
+    }
+}
