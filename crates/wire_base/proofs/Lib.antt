@@ -2,3 +2,5 @@ mod Walk
 mod Labels
 mod OwnedNames
 mod NameComparisons
+mod PrintedTexts
+mod AddressReads

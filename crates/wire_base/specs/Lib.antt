@@ -6,3 +6,4 @@ pub mod NameParts
 pub mod Lending
 pub mod OwnedNameView
 pub mod RecordReading
+pub mod PrintedIn

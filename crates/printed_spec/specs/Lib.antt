@@ -1,0 +1,3 @@
+pub mod Printed
+pub mod Addresses
+pub mod Laws
