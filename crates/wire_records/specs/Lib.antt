@@ -1,0 +1,4 @@
+pub mod UnknownView
+pub mod UnknownComparing
+pub mod Texts
+pub mod Reading
