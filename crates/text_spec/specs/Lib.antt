@@ -1,0 +1,10 @@
+pub mod Encodings
+pub mod Laws
+pub mod LayoutLaws
+pub mod Layouts
+pub mod Lexing
+pub mod NameTexts
+pub mod Pieces
+pub mod Scanning
+pub mod Tokens
+pub mod Words

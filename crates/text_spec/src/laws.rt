@@ -1,0 +1,76 @@
+//! Laws of the texts of entries, each proved for all arguments. The functions do nothing when they run.
+
+ghost use Rattle.text_spec.specs.Laws.{TokensRead, FaultRead};
+ghost use Rattle.text_spec.specs.Laws.{OctetsReadBack, NameReadBack, Base64Exact, Base16ReadBack};
+ghost use Rattle.text_spec.specs.Laws.{PlainReadBack, DecimalReadBack, Base16TokenText, Base64TokenText};
+ghost use Rattle.text_spec.specs.Laws.{Ipv4TokenText, Ipv6TokenText, WordsReadBack, LayoutSplits};
+
+/// A text has tokens exactly where it is read without a fault, and then they are those that are read.
+pub fn tokens_read()
+    ensures { TokensRead }
+{}
+
+/// A text has a fault exactly where it is the first that is found.
+pub fn fault_read()
+    ensures { FaultRead }
+{}
+
+/// The printed text of octets is wholly a token of these octets.
+pub fn octets_read_back()
+    ensures { OctetsReadBack }
+{}
+
+/// The printed text of a name with its final dot is wholly a token that spells the name.
+pub fn name_read_back()
+    ensures { NameReadBack }
+{}
+
+/// A text is read as exactly the octets whose base64 text it is.
+pub fn base64_exact()
+    ensures { Base64Exact }
+{}
+
+/// Octets are read back from their base16 text.
+pub fn base16_read_back()
+    ensures { Base16ReadBack }
+{}
+
+/// A text of octets that each stand for themselves, at least one, is wholly a token of these octets.
+pub fn plain_read_back()
+    ensures { PlainReadBack }
+{}
+
+/// The decimal text of a number is wholly a token of its octets.
+pub fn decimal_read_back()
+    ensures { DecimalReadBack }
+{}
+
+/// The base16 text of octets, at least one, is wholly a token of its octets.
+pub fn base16_token_text()
+    ensures { Base16TokenText }
+{}
+
+/// The base64 text of octets, at least one, is wholly a token of its octets.
+pub fn base64_token_text()
+    ensures { Base64TokenText }
+{}
+
+/// The text of an IPv4 address is wholly a token of its octets.
+pub fn ipv4_token_text()
+    ensures { Ipv4TokenText }
+{}
+
+/// The text of an IPv6 address is wholly a token of its octets.
+pub fn ipv6_token_text()
+    ensures { Ipv6TokenText }
+{}
+
+/// Words, with a space between two of them and with brackets around some, have exactly their tokens.
+pub fn words_read_back()
+    ensures { WordsReadBack }
+{}
+
+/// The text of a document, in each layout, has exactly the document's tokens.
+pub fn layout_splits()
+    ensures { LayoutSplits }
+{}
