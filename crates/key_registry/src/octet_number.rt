@@ -89,7 +89,7 @@ impl<R: Registry + 'static> IanaNumber for OctetNumber<R> {
 
     ghost reads_back = { spelled_number-octet };
 
-    fn rows() -> &'static [(u8, &'static str)] {
+    fn rows<'a>() -> &'a [(u8, &'static str)] {
         R::rows()
     }
 

@@ -12,7 +12,7 @@ use wire_base::{NoMemory, Parser, ShortInput};
 ///
 /// `LEN`, `value`, `octets` and `number_at` say what an integer means; the functions are proved to keep to them. By the
 /// laws at the end an integer is its number, and a number has `LEN` octets.
-pub trait Integer: Copy + 'static {
+pub trait Integer: Copy {
     /// The count of octets.
     ghost LEN: { ℕ };
 

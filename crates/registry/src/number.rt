@@ -68,7 +68,7 @@ pub trait IanaNumber: Copy + Display {
     }
 
     /// The registry's numbers that have a mnemonic, with it.
-    fn rows() -> &'static [(Self::Int, &'static str)]
+    fn rows<'a>() -> &'a [(Self::Int, &'static str)]
         ensures { map (λ row. (Self.Int.value row.0, row.1.now)) result.now ≡ rows };
 
     /// The value of an integer.

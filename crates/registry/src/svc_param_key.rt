@@ -145,7 +145,7 @@ impl IanaNumber for SvcParamKey {
 
     ghost reads_back = { spelled_key-printed_key parameter_keys refl };
 
-    fn rows() -> &'static [(u16, &'static str)] {
+    fn rows<'a>() -> &'a [(u16, &'static str)] {
         // each constant has the number that its name stands for
         prove!(SvcParamKey::MANDATORY.0 == 0);
         prove!(SvcParamKey::ALPN.0 == 1);

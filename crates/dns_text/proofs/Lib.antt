@@ -1,0 +1,5 @@
+pub mod Lengths
+pub mod NameTexts
+pub mod Nesting
+pub mod NextTokens
+pub mod Rests

@@ -1,0 +1,45 @@
+-- What the steps answer that read the text of an entry.
+use Rattle.std.specs.Prelude.{◌≡◌, ◌≤◌, ◌<◌, ℕ, ◌+◌, List, [], ◌∷◌, ◌++◌, length, Option, Some, None, Result, Ok, Err, IfOk, slice_get, drop}
+use Rattle.std.specs.Option.{option_map_or}
+use Rattle.text_spec.specs.declared.errors.ScanError.{ScanError}
+use Rattle.text_spec.specs.declared.lexeme.Symbol.{Symbol}
+use Rattle.text_spec.specs.declared.lexeme.Place.{Place}
+use Rattle.text_spec.specs.declared.lexeme.Front.{Front}
+use Rattle.text_spec.specs.declared.lexeme.Lexeme.{Lexeme}
+use Rattle.text_spec.specs.declared.lexeme.Lexeme.TheVariants.{Gap}
+use Rattle.text_spec.specs.Lexing.{with_front}
+use Rattle.text_spec.specs.Pieces.{grouped}
+use Rattle.text_spec.specs.Scanning.{Scan}
+
+-- what is read lies in the text, and opens at most one bracket
+abbrev pub StaysWithin : Place → List ℕ → Result Front ScanError → Type 0
+StaysWithin place rest result =
+    IfOk result (λ front. (front.len ≤ length rest) × (front.place.depth ≤ place.depth + 1))
+
+-- what a call answers that takes a lexeme, where the first of these lexemes were left before it and the others after it
+abbrev pub Takes : Result (Option Lexeme) ScanError → Result (List Lexeme) ScanError → Result (List Lexeme) ScanError
+    → Type 0
+Takes (Ok (Some lexeme)) before after = before ≡ with_front lexeme after
+Takes (Ok None) before after = (before ≡ Ok []) × (after ≡ Ok [])
+Takes (Err fault) before after = before ≡ Err fault
+
+-- a token begins here
+abbrev pub BeginsToken : List Lexeme → Type 0
+BeginsToken [] = ⊥
+BeginsToken (Gap ∷ lexemes) = ⊥
+BeginsToken (lexeme ∷ lexemes) = Unit {0}
+
+-- the next symbol of the token that is read, or none where the token ends
+abbrev pub GoesOn : Option Symbol → List Lexeme → List Lexeme → Type 0
+GoesOn (Some symbol) old new =
+    (token : List Symbol) → grouped (Some token) old ≡ grouped (Some (token ++ symbol ∷ [])) new
+GoesOn None old new = (token : List Symbol) → grouped (Some token) old ≡ token ∷ grouped None new
+
+-- the count of the next token's symbols
+abbrev pub token_len : List Lexeme → ℕ
+token_len lexemes = option_map_or (λ token. length token) (slice_get (grouped None lexemes) 0) 0
+
+-- a token is left, and these tokens are left behind it
+pub record IsBehindNext (scan : Scan) (left : List (List Symbol)) : Type 0 where
+  pub behind : left ≡ drop (scan.taken + 1) scan.tokens
+  pub more : scan.taken < length scan.tokens

@@ -1,0 +1,169 @@
+//! The scanner of one entry.
+
+ghost use Rattle.std.specs.Prelude.{◌≡◌, ◌≤◌, ◌<◌, ◌+◌, ◌==◌, ◌&&◌, [], Ok, Some, None, length, drop, IfOk, IfErr, OnOk, OnErr};
+ghost use Rattle.text_spec.specs.Pieces.{grouped};
+ghost use Rattle.text_spec.specs.Tokens.{tokens_in};
+ghost use Rattle.text_spec.specs.Scanning.{Answers, next_token, any_octets};
+ghost use Rattle.dns_text.specs.Reading.{IsBehindNext};
+
+use crate::entry::Entry;
+use crate::lexemes::Lexemes;
+use crate::scanner::Scanner;
+use std::alloc::Global;
+use std::marker::Model;
+use text_spec::{ScanError, Symbol};
+use wire_base::Octets;
+
+// The escaped symbol `#`, which is a marker where it is a token of its own.
+fn is_marker(symbol: Symbol) -> bool
+    ensures { result ≡ (symbol.escaped && (symbol.octet == 35)) }
+{
+    symbol.escaped && symbol.octet == b'#'
+}
+
+/// Takes the tokens of an entry from its text, which it reads as it goes.
+#[derive(Debug, Drop)]
+pub struct EntryScanner<'t> {
+    entry: Entry<'t>,
+    lexemes: Lexemes<'t>,
+    taken: usize,
+}
+
+impl<'t> Model for EntryScanner<'t> {
+    ghost use Rattle.std.specs.Prelude.{◌≡◌, ◌≤◌, ◌<◌, ◌^◌, length, drop, None};
+    ghost use Rattle.text_spec.specs.Pieces.{grouped};
+    ghost use Rattle.text_spec.specs.Tokens.{tokens_in};
+    ghost use Rattle.text_spec.specs.Scanning.{Scan};
+
+    ghost Value = { Scan };
+
+    ghost view = { λ scanner. record {
+      tokens = tokens_in scanner.entry.text.now;
+      taken = scanner.taken;
+    } };
+
+    ghost invariant = { λ scanner. record {
+      left : grouped None scanner.lexemes ≡ drop scanner.taken (tokens_in scanner.entry.text.now);
+      within : scanner.taken ≤ length (tokens_in scanner.entry.text.now);
+      short : length (tokens_in scanner.entry.text.now) < 2 ^ 64;
+    } };
+}
+
+impl<'t> EntryScanner<'t> {
+    /// A scanner of an entry's tokens, of which none is taken. It takes no memory.
+    pub fn new(entry: Entry<'t>) -> EntryScanner<'t>
+        ensures { result ≡ record { tokens = tokens_in entry.entry.text.now; taken = 0 } }
+    {
+        EntryScanner {
+            entry,
+            lexemes: Lexemes::new(entry),
+            taken: 0,
+        }
+    }
+
+    // The lexemes from the next token on.
+    fn next_token(&self) -> Result<Lexemes<'t>, ScanError>
+        ensures left { IfOk result (λ lexemes.
+            grouped (Some []) lexemes ≡ drop self.now.taken self.now.tokens) }
+        ensures more { OnOk result (self.now.taken < length self.now.tokens) }
+        ensures end { OnErr result (length self.now.tokens ≤ self.now.taken) }
+        ensures err { IfErr result (λ fault. fault ≡ ScanError.EndOfEntry) }
+    {
+        let mut lexemes = self.lexemes.copy();
+        if !lexemes.find_token() {
+            return Err(ScanError::EndOfEntry);
+        }
+        Ok(lexemes)
+    }
+
+    // The next token's symbols, and the lexemes behind it.
+    fn peek(&self, alloc: Global) -> Result<(Vec<Symbol>, Lexemes<'t>), ScanError>
+        ensures answer { Answers (λ found. found.0.items) result
+            (next_token Ok self.now.tokens self.now.taken) }
+        ensures behind { IfOk result (λ found.
+            IsBehindNext self.now (grouped None found.1)) }
+    {
+        let mut lexemes = self.next_token()?;
+        let mut symbols = Vec::with_capacity(alloc, lexemes.token_len())?;
+        while let Some(symbol) = lexemes.next_symbol() {
+            symbols.push(symbol)?;
+        }
+        Ok((symbols, lexemes))
+    }
+
+    // The next token's octets, and the lexemes behind it.
+    fn peek_octets(&self, alloc: Global) -> Result<(Octets, Lexemes<'t>), ScanError>
+        ensures answer { Answers (λ found. found.0) result
+            (next_token any_octets self.now.tokens self.now.taken) }
+        ensures behind { IfOk result (λ found.
+            IsBehindNext self.now (grouped None found.1)) }
+    {
+        let mut lexemes = self.next_token()?;
+        let mut octets = Vec::with_capacity(alloc, lexemes.token_len())?;
+        while let Some(symbol) = lexemes.next_symbol() {
+            octets.push(symbol.octet)?;
+        }
+        Ok((Octets::from_vec(octets), lexemes))
+    }
+
+    // Takes the next token, behind which these lexemes are left.
+    fn take(&mut self, behind: Lexemes<'t>)
+        requires { IsBehindNext self.old (grouped None behind) }
+        ensures { self.new ≡ record self.old { taken = self.old.taken + 1 } }
+    {
+        self.lexemes = behind;
+        self.taken += 1;
+    }
+}
+
+impl<'t> Scanner for EntryScanner<'t> {
+    ghost scan = { λ scanner. scanner };
+
+    fn continues(&self) -> bool {
+        self.next_token().is_ok()
+    }
+
+    fn taken(&self) -> usize {
+        self.taken
+    }
+
+    // Reads the entry again from its start.
+    fn go_back(&mut self, taken: usize) {
+        let mut lexemes = Lexemes::new(self.entry);
+        for _ in 0..taken {
+            lexemes.pass_token();
+        }
+        self.lexemes = lexemes;
+        self.taken = taken;
+    }
+
+    fn scan_symbols(&mut self, alloc: Global) -> Result<Vec<Symbol>, ScanError> {
+        let (symbols, behind) = self.peek(alloc)?;
+        self.take(behind);
+        Ok(symbols)
+    }
+
+    // No symbols are collected.
+    fn scan_octets(&mut self, alloc: Global) -> Result<Octets, ScanError> {
+        let (octets, behind) = self.peek_octets(alloc)?;
+        self.take(behind);
+        Ok(octets)
+    }
+
+    fn scan_opt_unknown_marker(&mut self) -> bool {
+        let Ok(mut lexemes) = self.next_token() else {
+            return false;
+        };
+        let Some(symbol) = lexemes.next_symbol() else {
+            return false;
+        };
+        if !is_marker(symbol) {
+            return false;
+        }
+        if lexemes.next_symbol().is_some() {
+            return false;
+        }
+        self.take(lexemes);
+        true
+    }
+}
