@@ -1,0 +1,11 @@
+pub mod BareTexts
+pub mod OpaqueTexts
+pub mod ItemTexts
+pub mod ListTexts
+pub mod TypedTexts
+pub mod AlpnTexts
+pub mod ValuesAgain
+pub mod PairTexts
+pub mod ParamTokens
+pub mod Tallies
+pub mod TokenOrders

@@ -1,0 +1,5 @@
+pub mod ListTexts
+pub mod ValueTexts
+pub mod ParamTexts
+pub mod PrintedValues
+pub mod PrintedParams

@@ -1,0 +1,1 @@
+//! Laws of the texts of service parameters, each proved for all arguments. The functions do nothing when they run.
