@@ -1,3 +1,4 @@
 mod BuildLemmas
+mod ListTexts
 mod PartLemmas
 mod ProtocolLemmas

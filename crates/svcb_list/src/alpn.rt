@@ -1,14 +1,19 @@
 //! The protocols that a server speaks (RFC 9460, section 7.1).
 
-ghost use Rattle.std.specs.Prelude.{◌≡◌, ◌<◌, ◌∷◌, true, ℕ, List, length, refl, OnOk, OnErr, IfOk};
+ghost use Rattle.std.specs.Prelude.{◌≡◌, ◌<◌, ◌∷◌, Some, true, ℕ, List, length, refl, OnOk, OnErr, IfOk};
 ghost use Rattle.svcb_spec.specs.Values as values;
 ghost use Rattle.svcb_list.specs.Holding.{protocols_hold};
 ghost use Rattle.svcb_spec.specs.ReadingValues.{protocols, protocols_fault, are_whole};
+ghost use Rattle.printed_spec.specs.Printed.{printed_octets};
+ghost use Rattle.param_text_spec.specs.ListTexts.{escaped_item};
+ghost use Rattle.param_text_spec.specs.PrintedValues.{value_printed};
 
 use crate::item_iter::ItemIter;
 use crate::item_list::{ItemList, ItemListRef};
+use crate::list_text::write_escaped;
 use crate::list_type::{ListItems, ListType};
 use registry::{LongSvcParam, SvcParamKey};
+use std::fmt;
 use wire_base::ParseError;
 
 /// The type of `alpn`, whose items are names of protocols of at most 255 octets, each behind its length.
@@ -23,6 +28,15 @@ pub type AlpnRef<'a> = ItemListRef<'a, AlpnType>;
 
 /// The protocols in order. Each stays in the value's octets.
 pub type AlpnIter<'a> = ItemIter<'a, AlpnType>;
+
+/// The text of a view of the value.
+impl fmt::Display for Alpn {
+    ghost output = { λ list. Some (value_printed list) };
+
+    fn fmt<W: fmt::Write>(&self, f: &mut fmt::Formatter<W>) -> fmt::Result {
+        write!(f, "{}", self.for_ref())
+    }
+}
 
 impl ListType for AlpnType {
     ghost key = { 1 };
@@ -81,14 +95,22 @@ impl<'a> ListItems<'a> for AlpnType {
 
     ghost listed = { values.Alpn };
 
+    ghost text = { λ protocol. printed_octets (escaped_item protocol) };
+
     ghost no_items = { refl };
 
     ghost lists = { λ octets. refl };
+
+    ghost prints = { λ protocols. refl };
 
     #[tactic(auto, using(crate::proofs::ProtocolLemmas::first_rules))]
     fn split(octets: &'a [u8]) -> (&'a [u8], &'a [u8]) {
         let len = usize::from(octets[0]);
         let (_, others) = octets.split_at(1);
         others.split_at(len)
+    }
+
+    fn write_item<W: fmt::Write>(protocol: &'a [u8], f: &mut fmt::Formatter<W>) -> fmt::Result {
+        write_escaped(protocol, f)
     }
 }

@@ -1,11 +1,13 @@
 //! IPv4 addresses at which the target may be reached (RFC 9460, section 7.3).
 
-ghost use Rattle.std.specs.Prelude.{◌≡◌, ◌*◌, ◌<◌, ◌∷◌, ◌%◌, ◌==◌, true, ℕ, List, length, refl, IfOk};
+ghost use Rattle.std.specs.Prelude.{◌≡◌, ◌*◌, ◌<◌, ◌∷◌, ◌%◌, ◌==◌, Some, true, ℕ, List, length, refl, IfOk};
 ghost use Rattle.svcb_spec.specs.Values as values;
 ghost use Rattle.svcb_list.specs.Holding.{addresses_hold};
 ghost use Rattle.svcb_list.specs.Building.{IsBuilt};
 ghost use Rattle.std.proofs.Common.{lit<};
 ghost use Rattle.svcb_spec.specs.ReadingValues.{parts, parts_fault};
+ghost use Rattle.printed_spec.specs.Addresses.{ipv4_text};
+ghost use Rattle.param_text_spec.specs.PrintedValues.{value_printed};
 
 use crate::fixed_item::compose_items;
 use crate::item_iter::ItemIter;
@@ -14,6 +16,7 @@ use crate::list_type::{ListItems, ListType};
 use crate::parts::{check_parts, split_address};
 use registry::{BuildValueError, SvcParamKey};
 use std::alloc::Global;
+use std::fmt;
 use wire_base::{Ipv4Addr, ParseError};
 
 /// The type of `ipv4hint`, whose items are addresses of four octets each.
@@ -38,6 +41,15 @@ impl Ipv4Hint {
         ensures answer { IsBuilt result (length addrs.now * 4) }
     {
         Ok(ItemList::from_checked_octets(compose_items(alloc, addrs)?))
+    }
+}
+
+/// The text of a view of the value.
+impl fmt::Display for Ipv4Hint {
+    ghost output = { λ list. Some (value_printed list) };
+
+    fn fmt<W: fmt::Write>(&self, f: &mut fmt::Formatter<W>) -> fmt::Result {
+        write!(f, "{}", self.for_ref())
     }
 }
 
@@ -77,11 +89,19 @@ impl<'a> ListItems<'a> for Ipv4HintType {
 
     ghost listed = { values.Ipv4Hint };
 
+    ghost text = { ipv4_text };
+
     ghost no_items = { refl };
 
     ghost lists = { λ octets. refl };
 
+    ghost prints = { λ addresses. refl };
+
     fn split(octets: &'a [u8]) -> (Ipv4Addr, &'a [u8]) {
         split_address(octets)
+    }
+
+    fn write_item<W: fmt::Write>(address: Ipv4Addr, f: &mut fmt::Formatter<W>) -> fmt::Result {
+        write!(f, "{address}")
     }
 }

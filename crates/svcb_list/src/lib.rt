@@ -9,6 +9,7 @@ mod ipv4_hint;
 mod ipv6_hint;
 mod item_iter;
 mod item_list;
+mod list_text;
 mod list_type;
 mod mandatory;
 mod parts;

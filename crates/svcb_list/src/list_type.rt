@@ -1,13 +1,16 @@
 //! What tells the lists of items apart.
 
-ghost use Rattle.std.specs.Prelude.{◌≡◌, ◌<◌, ◌∷◌, ℕ, List, [], Bool, true, Option, length, slice_index, OnOk};
+ghost use Rattle.std.specs.Prelude.{◌≡◌, ◌<◌, ◌∷◌, ℕ, List, [], Bool, true, Option, length, map, slice_index, OnOk};
+ghost use Rattle.std.specs.Fmt.{WritesOnOk};
 ghost use Rattle.wire_base.specs.Faults.{Gives};
 ghost use Rattle.name_spec.specs.Octets.{Fault};
 ghost use Rattle.svcb_spec.specs.Values.{Value, HasItems, key_of};
 ghost use Rattle.svcb_spec.specs.ReadingValues.{taking_all, whole_value};
+ghost use Rattle.param_text_spec.specs.PrintedValues.{value_printed, key_name, with_items};
 ghost use Rattle.svcb_list.specs.Reading.{HoldsValue};
 
 use registry::SvcParamKey;
+use std::fmt;
 use wire_base::ParseError;
 
 /// A type of service parameter whose value is a list of items.
@@ -49,7 +52,7 @@ pub trait ListType {
 /// The items of a type, which may stay in the octets.
 pub trait ListItems<'a>: ListType {
     /// An item.
-    type Item;
+    type Item: Drop;
 
     /// What contracts see of an item.
     ghost Seen: { Type 0 };
@@ -63,6 +66,9 @@ pub trait ListItems<'a>: ListType {
     /// The value of a list of items.
     ghost listed: { List Seen → Value };
 
+    /// The text of an item.
+    ghost text: { Seen → List ℕ };
+
     /// The first item, and the octets behind it.
     fn split(octets: &'a [u8]) -> (Self::Item, &'a [u8])
         requires not_empty { 0 < length octets.now }
@@ -71,9 +77,17 @@ pub trait ListItems<'a>: ListType {
         ensures whole { Self.whole result.1.now ≡ true }
         ensures shorter { length result.1.now < length octets.now };
 
+    /// Writes the text of an item. Refused only where `f` refuses.
+    fn write_item<W: fmt::Write>(item: Self::Item, f: &mut fmt::Formatter<W>) -> fmt::Result
+        ensures { WritesOnOk W.Write.write_str_gives f.old result (text (seen item)) f.new };
+
     /// No octets are no items.
     ghost no_items: { items [] ≡ [] };
 
     /// The value that octets are is that of their items.
     ghost lists: { (octets : List ℕ) → Self.value octets ≡ listed (items octets) };
+
+    /// A value is printed as its key and its items with commas between them, and as nothing where there is none.
+    ghost prints: { (xs : List Seen)
+        → value_printed (listed xs) ≡ with_items (key_name Self.key) (map text xs) };
 }

@@ -1,10 +1,11 @@
 //! The keys that a client must know (RFC 9460, section 8).
 
-ghost use Rattle.std.specs.Prelude.{◌≡◌, ◌*◌, ◌<◌, ◌∷◌, ◌%◌, ◌==◌, true, ℕ, length, refl, IfOk};
+ghost use Rattle.std.specs.Prelude.{◌≡◌, ◌*◌, ◌<◌, ◌∷◌, ◌%◌, ◌==◌, Some, true, ℕ, length, refl, IfOk};
 ghost use Rattle.svcb_spec.specs.Values as values;
 ghost use Rattle.svcb_list.specs.Holding.{numbers_hold};
 ghost use Rattle.svcb_list.specs.Building.{IsBuilt};
 ghost use Rattle.svcb_spec.specs.ReadingValues.{numbers, parts_fault};
+ghost use Rattle.param_text_spec.specs.PrintedValues.{key_name, value_printed};
 
 use crate::fixed_item::compose_items;
 use crate::item_iter::ItemIter;
@@ -13,6 +14,7 @@ use crate::list_type::{ListItems, ListType};
 use crate::parts::{check_parts, split_number};
 use registry::{BuildValueError, SvcParamKey};
 use std::alloc::Global;
+use std::fmt;
 use wire_base::ParseError;
 
 /// The type of `mandatory`, whose items are keys of two octets each.
@@ -37,6 +39,15 @@ impl Mandatory {
         ensures answer { IsBuilt result (length keys.now * 2) }
     {
         Ok(ItemList::from_checked_octets(compose_items(alloc, keys)?))
+    }
+}
+
+/// The text of a view of the value.
+impl fmt::Display for Mandatory {
+    ghost output = { λ list. Some (value_printed list) };
+
+    fn fmt<W: fmt::Write>(&self, f: &mut fmt::Formatter<W>) -> fmt::Result {
+        write!(f, "{}", self.for_ref())
     }
 }
 
@@ -76,12 +87,20 @@ impl<'a> ListItems<'a> for MandatoryType {
 
     ghost listed = { values.Mandatory };
 
+    ghost text = { key_name };
+
     ghost no_items = { refl };
 
     ghost lists = { λ octets. refl };
 
+    ghost prints = { λ keys. refl };
+
     fn split(octets: &'a [u8]) -> (SvcParamKey, &'a [u8]) {
         let (number, others) = split_number(octets);
         (SvcParamKey::from(number), others)
+    }
+
+    fn write_item<W: fmt::Write>(key: SvcParamKey, f: &mut fmt::Formatter<W>) -> fmt::Result {
+        write!(f, "{key}")
     }
 }

@@ -1,10 +1,12 @@
 //! The groups for key exchange that a server supports (key 9, `tls-supported-groups`).
 
-ghost use Rattle.std.specs.Prelude.{◌≡◌, ◌*◌, ◌<◌, ◌∷◌, ◌%◌, ◌==◌, true, ℕ, length, refl, IfOk};
+ghost use Rattle.std.specs.Prelude.{◌≡◌, ◌*◌, ◌<◌, ◌∷◌, ◌%◌, ◌==◌, Some, true, ℕ, length, refl, IfOk};
 ghost use Rattle.svcb_spec.specs.Values as values;
 ghost use Rattle.svcb_list.specs.Holding.{numbers_hold, some_groups};
 ghost use Rattle.svcb_list.specs.Building.{IsBuiltNotEmpty};
 ghost use Rattle.svcb_spec.specs.ReadingValues.{numbers, groups_fault};
+ghost use Rattle.std.specs.Fmt.{decimal};
+ghost use Rattle.param_text_spec.specs.PrintedValues.{value_printed};
 
 use crate::fixed_item::compose_items;
 use crate::item_iter::ItemIter;
@@ -13,6 +15,7 @@ use crate::list_type::{ListItems, ListType};
 use crate::parts::{check_parts, split_number};
 use registry::{BuildValueError, SvcParamKey};
 use std::alloc::Global;
+use std::fmt;
 use wire_base::ParseError;
 
 /// The type of `tls-supported-groups`, whose items are numbers of two octets each, at least one.
@@ -40,6 +43,15 @@ impl TlsSupportedGroups {
             return Err(BuildValueError::EmptyValue);
         }
         Ok(ItemList::from_checked_octets(compose_items(alloc, keys)?))
+    }
+}
+
+/// The text of a view of the value.
+impl fmt::Display for TlsSupportedGroups {
+    ghost output = { λ list. Some (value_printed list) };
+
+    fn fmt<W: fmt::Write>(&self, f: &mut fmt::Formatter<W>) -> fmt::Result {
+        write!(f, "{}", self.for_ref())
     }
 }
 
@@ -83,11 +95,19 @@ impl<'a> ListItems<'a> for TlsSupportedGroupsType {
 
     ghost listed = { values.TlsSupportedGroups };
 
+    ghost text = { decimal };
+
     ghost no_items = { refl };
 
     ghost lists = { λ octets. refl };
 
+    ghost prints = { λ groups. refl };
+
     fn split(octets: &'a [u8]) -> (u16, &'a [u8]) {
         split_number(octets)
+    }
+
+    fn write_item<W: fmt::Write>(group: u16, f: &mut fmt::Formatter<W>) -> fmt::Result {
+        write!(f, "{group}")
     }
 }

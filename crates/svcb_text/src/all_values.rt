@@ -5,6 +5,7 @@ ghost use Rattle.std.specs.Prelude.{◌≡◌, length, IfOk};
 use crate::all_values_ref::AllValuesRef;
 use registry::{ComposeSvcParamValue, SvcParamKey, SvcParamValue};
 use std::alloc::Global;
+use std::fmt;
 use svcb_list::{Alpn, Ipv4Hint, Ipv6Hint, Mandatory, TlsSupportedGroups};
 use svcb_value::{DohPath, Ech, NoDefaultAlpn, Ohttp, Port, UnknownSvcParam};
 use wire_base::NoMemory;
@@ -150,6 +151,31 @@ impl ComposeSvcParamValue for AllValues {
             AllValues::Ohttp(value) => value.compose_value(target),
             AllValues::TlsSupportedGroups(value) => value.compose_value(target),
             AllValues::Unknown(value) => value.compose_value(target),
+        }
+    }
+}
+
+/// The text of the value.
+impl fmt::Display for AllValues {
+    ghost use Rattle.std.specs.Prelude.{Some};
+    ghost use Rattle.param_text_spec.specs.PrintedValues.{value_printed};
+    ghost use Rattle.svcb_text.specs.AllValues.{value_of};
+
+    ghost output = { λ value. Some (value_printed (value_of value)) };
+
+    fn fmt<W: fmt::Write>(&self, f: &mut fmt::Formatter<W>) -> fmt::Result {
+        match self {
+            AllValues::Mandatory(value) => write!(f, "{value}"),
+            AllValues::Alpn(value) => write!(f, "{value}"),
+            AllValues::NoDefaultAlpn(value) => write!(f, "{value}"),
+            AllValues::Port(value) => write!(f, "{value}"),
+            AllValues::Ech(value) => write!(f, "{value}"),
+            AllValues::Ipv4Hint(value) => write!(f, "{value}"),
+            AllValues::Ipv6Hint(value) => write!(f, "{value}"),
+            AllValues::DohPath(value) => write!(f, "{value}"),
+            AllValues::Ohttp(value) => write!(f, "{value}"),
+            AllValues::TlsSupportedGroups(value) => write!(f, "{value}"),
+            AllValues::Unknown(value) => write!(f, "{value}"),
         }
     }
 }

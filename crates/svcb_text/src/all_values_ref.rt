@@ -6,6 +6,7 @@ use crate::all_values::AllValues;
 use crate::whole_value::parse_wholly;
 use registry::{ComposeSvcParamValue, ParseSvcParamValue, SvcParamKey, SvcParamValue};
 use std::alloc::Global;
+use std::fmt;
 use svcb_list::{AlpnRef, Ipv4HintRef, Ipv6HintRef, MandatoryRef, TlsSupportedGroupsRef};
 use svcb_value::{DohPathRef, EchRef, NoDefaultAlpn, Ohttp, Port, UnknownSvcParamRef};
 use wire_base::{NoMemory, ParseError, Parser};
@@ -188,6 +189,31 @@ impl<'a> ComposeSvcParamValue for AllValuesRef<'a> {
             AllValuesRef::Ohttp(view) => view.compose_value(target),
             AllValuesRef::TlsSupportedGroups(view) => view.compose_value(target),
             AllValuesRef::Unknown(view) => view.compose_value(target),
+        }
+    }
+}
+
+/// The text of the value that is viewed.
+impl<'a> fmt::Display for AllValuesRef<'a> {
+    ghost use Rattle.std.specs.Prelude.{Some};
+    ghost use Rattle.param_text_spec.specs.PrintedValues.{value_printed};
+    ghost use Rattle.svcb_text.specs.AllValuesRef.{seen_view};
+
+    ghost output = { λ view. Some (value_printed (seen_view view)) };
+
+    fn fmt<W: fmt::Write>(&self, f: &mut fmt::Formatter<W>) -> fmt::Result {
+        match self {
+            AllValuesRef::Mandatory(view) => write!(f, "{view}"),
+            AllValuesRef::Alpn(view) => write!(f, "{view}"),
+            AllValuesRef::NoDefaultAlpn(value) => write!(f, "{value}"),
+            AllValuesRef::Port(value) => write!(f, "{value}"),
+            AllValuesRef::Ech(view) => write!(f, "{view}"),
+            AllValuesRef::Ipv4Hint(view) => write!(f, "{view}"),
+            AllValuesRef::Ipv6Hint(view) => write!(f, "{view}"),
+            AllValuesRef::DohPath(view) => write!(f, "{view}"),
+            AllValuesRef::Ohttp(value) => write!(f, "{value}"),
+            AllValuesRef::TlsSupportedGroups(view) => write!(f, "{view}"),
+            AllValuesRef::Unknown(view) => write!(f, "{view}"),
         }
     }
 }

@@ -1,16 +1,20 @@
 //! Paths of DNS over HTTPS.
 
-ghost use Rattle.std.specs.Prelude.{◌≡◌, ◌<◌, ◌≤◌, length, IfOk, IfErr, OnOk, refl};
+ghost use Rattle.std.specs.Prelude.{◌≡◌, ◌<◌, ◌≤◌, codes, length, IfOk, IfErr, OnOk, refl};
 ghost use Rattle.svcb_spec.specs.Values as values;
+ghost use Rattle.param_text_spec.specs.PrintedValues.{utf8_or_printed};
 ghost use Rattle.svcb_value.specs.Building.{IsCause};
+ghost use Rattle.svcb_value.specs.PrintingLaws.{with_utf8};
 
 use crate::opaque::{OpaqueType, OpaqueValue};
 use crate::opaque_ref::OpaqueRef;
 use registry::{BuildValueError, LongSvcParam, SvcParamKey};
 use std::alloc::Global;
-use wire_base::Octets;
+use std::{fmt, str};
+use wire_base::{Octets, PrintedOctets};
 
-/// The type of `dohpath` (RFC 9461, section 5): a URI template in UTF-8. Octets that are no UTF-8 are values too.
+/// The type of `dohpath` (RFC 9461, section 5): a URI template in UTF-8, which is its text. Octets that are no UTF-8 are
+/// values too; their text is that of [`PrintedOctets`].
 #[derive(Debug)]
 pub struct DohPathType;
 
@@ -19,16 +23,27 @@ impl OpaqueType for DohPathType {
 
     ghost value = { values.DohPath };
 
+    ghost text = { utf8_or_printed };
+
     ghost belongs = { λ octets. refl };
 
     ghost encodes = { λ octets. refl };
 
     ghost has_items = { λ octets. tt };
 
+    ghost prints = { with_utf8 (codes "dohpath") };
+
     const NAME: &'static str = "DohPath";
 
     fn key() -> SvcParamKey {
         SvcParamKey::DOHPATH
+    }
+
+    fn write_text<W: fmt::Write>(octets: &[u8], f: &mut fmt::Formatter<W>) -> fmt::Result {
+        match str::from_utf8(octets) {
+            Ok(template) => write!(f, "{template}"),
+            Err(_) => write!(f, "{}", PrintedOctets::new(octets)),
+        }
     }
 }
 

@@ -1,9 +1,11 @@
 //! Values that say something by being there, and have no octets.
 
-ghost use Rattle.std.specs.Prelude.{◌≡◌, ℕ, List, [], ◌==◌, Ok, IsOk, OnOk};
+ghost use Rattle.std.specs.Prelude.{◌≡◌, ℕ, List, [], ◌==◌, Some, Ok, IsOk, OnOk};
 ghost use Rattle.svcb_spec.specs.Values as values;
+ghost use Rattle.param_text_spec.specs.PrintedValues.{value_printed};
 
 use registry::{ComposeSvcParamValue, ParseSvcParamValue, SvcParamKey, SvcParamValue};
+use std::fmt;
 use wire_base::{NoMemory, ParseError, Parser};
 
 /// The value of `no-default-alpn` (RFC 9460, section 7.1.1): the protocols of `alpn` are the only ones.
@@ -63,6 +65,15 @@ impl ComposeSvcParamValue for NoDefaultAlpn {
     }
 }
 
+/// The key alone.
+impl fmt::Display for NoDefaultAlpn {
+    ghost output = { λ _. Some (value_printed values.NoDefaultAlpn) };
+
+    fn fmt<W: fmt::Write>(&self, f: &mut fmt::Formatter<W>) -> fmt::Result {
+        write!(f, "{}", self.key())
+    }
+}
+
 /// The value of `ohttp` (RFC 9540, section 4): the service is reached by Oblivious HTTP.
 #[derive(Clone, Copy, Debug, PartialEq, Eq, Hash)]
 pub struct Ohttp;
@@ -114,5 +125,14 @@ impl ComposeSvcParamValue for Ohttp {
 
     fn compose_value(&self, _target: &mut Vec<u8>) -> Result<(), NoMemory> {
         Ok(())
+    }
+}
+
+/// The key alone.
+impl fmt::Display for Ohttp {
+    ghost output = { λ _. Some (value_printed values.Ohttp) };
+
+    fn fmt<W: fmt::Write>(&self, f: &mut fmt::Formatter<W>) -> fmt::Result {
+        write!(f, "{}", self.key())
     }
 }

@@ -1,11 +1,14 @@
 //! Values whose octets are not looked into.
 
-ghost use Rattle.std.specs.Prelude.{◌≡◌, ℕ, List, ◌≤◌, ◌<◌, length, IfOk, OnOk, OnErr};
+ghost use Rattle.std.specs.Prelude.{◌≡◌, ℕ, List, ◌≤◌, ◌<◌, Some, length, IfOk, OnOk, OnErr};
+ghost use Rattle.std.specs.Fmt.{WritesOnOk};
 ghost use Rattle.svcb_spec.specs.Values.{Value, key_of, encode, HasItems, IsValue};
 ghost use Rattle.svcb_spec.specs.ReadingValues.{taking_all, whole_value, long_fault};
 ghost use Rattle.wire_base.specs.Faults.{GivesCopy};
 ghost use Rattle.wire_base.specs.Input.{left};
 ghost use Rattle.wire_base.specs.Moving.{TakesAll, AppendsOctets};
+ghost use Rattle.param_text_spec.specs.PrintedValues.{value_printed, key_name};
+ghost use Rattle.svcb_value.specs.Printing.{key_and_text};
 
 use crate::opaque_ref::OpaqueRef;
 use registry::{ComposeSvcParamValue, LongSvcParam, SvcParamKey, SvcParamValue};
@@ -22,12 +25,19 @@ pub trait OpaqueType {
     /// The value of octets.
     ghost value: { List ℕ → Value };
 
+    /// The text of octets.
+    ghost text: { List ℕ → List ℕ };
+
     /// What `Debug` calls a value.
     const NAME: &'static str;
 
     /// The key of the type.
     fn key() -> SvcParamKey
         ensures { result ≡ key };
+
+    /// Writes the text of octets. Refused only where `f` refuses.
+    fn write_text<W: fmt::Write>(octets: &[u8], f: &mut fmt::Formatter<W>) -> fmt::Result
+        ensures { WritesOnOk W.Write.write_str_gives f.old result (text octets.now) f.new };
 
     /// Each value belongs to the key.
     ghost belongs: { (octets : List ℕ) → key_of (value octets) ≡ key };
@@ -37,6 +47,10 @@ pub trait OpaqueType {
 
     /// Any octets are a value.
     ghost has_items: { (octets : List ℕ) → HasItems (value octets) };
+
+    /// A value is printed as its key, and the text of its octets where it has some.
+    ghost prints: { (octets : List ℕ)
+        → value_printed (value octets) ≡ key_and_text (key_name key) octets (text octets) };
 }
 
 /// A value whose octets are not looked into. Equality looks at the octets.
@@ -161,5 +175,14 @@ impl<T: OpaqueType> ComposeSvcParamValue for OpaqueValue<T> {
     fn compose_value(&self, target: &mut Vec<u8>) -> Result<(), NoMemory> {
         target.extend_from_slice(self.octets.as_slice())?;
         Ok(())
+    }
+}
+
+/// The text of a view of the value.
+impl<T: OpaqueType> fmt::Display for OpaqueValue<T> {
+    ghost output = { λ value. Some (value_printed value) };
+
+    fn fmt<W: fmt::Write>(&self, f: &mut fmt::Formatter<W>) -> fmt::Result {
+        write!(f, "{}", self.for_ref())
     }
 }

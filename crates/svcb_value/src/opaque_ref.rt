@@ -1,11 +1,12 @@
 //! Views of values whose octets are not looked into.
 
-ghost use Rattle.std.specs.Prelude.{◌≡◌, ◌==◌, ℕ, List, ◌≤◌, ◌<◌, length, IfOk, OnOk, OnErr, ⊤};
+ghost use Rattle.std.specs.Prelude.{◌≡◌, ◌==◌, ℕ, List, ◌≤◌, ◌<◌, Some, length, IfOk, OnOk, OnErr, ⊤};
 ghost use Rattle.svcb_spec.specs.Values.{Value, key_of, encode, IsValue};
 ghost use Rattle.svcb_spec.specs.ReadingValues.{taking_all, whole_value, long_fault};
 ghost use Rattle.wire_base.specs.Faults.{Gives};
 ghost use Rattle.wire_base.specs.Input.{left};
 ghost use Rattle.wire_base.specs.Moving.{TakesAll, AppendsOctets};
+ghost use Rattle.param_text_spec.specs.PrintedValues.{value_printed};
 
 use crate::opaque::{OpaqueType, OpaqueValue};
 use registry::{
@@ -138,5 +139,18 @@ impl<'a, T: OpaqueType> ComposeSvcParamValue for OpaqueRef<'a, T> {
     fn compose_value(&self, target: &mut Vec<u8>) -> Result<(), NoMemory> {
         target.extend_from_slice(self.slice)?;
         Ok(())
+    }
+}
+
+/// The key, and `=` and the text of the octets, as [`OpaqueType`] has it. Without octets the key stands alone.
+impl<'a, T: OpaqueType> fmt::Display for OpaqueRef<'a, T> {
+    ghost output = { λ view. Some (value_printed (T.value view.slice.now)) };
+
+    fn fmt<W: fmt::Write>(&self, f: &mut fmt::Formatter<W>) -> fmt::Result {
+        if self.slice.is_empty() {
+            return write!(f, "{}", T::key());
+        }
+        write!(f, "{}=", T::key())?;
+        T::write_text(self.slice, f)
     }
 }

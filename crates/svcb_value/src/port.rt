@@ -1,14 +1,16 @@
 //! Ports.
 
-ghost use Rattle.std.specs.Prelude.{◌≡◌, ℕ, ◌+◌, ◌≤◌, ◌<◌, ◌==◌, length, OnOk, OnErr};
+ghost use Rattle.std.specs.Prelude.{◌≡◌, ℕ, ◌+◌, ◌≤◌, ◌<◌, ◌==◌, Some, length, OnOk, OnErr};
 ghost use Rattle.name_spec.specs.Octets.{be2};
 ghost use Rattle.svcb_spec.specs.Values as values;
 ghost use Rattle.svcb_spec.specs.ReadingValues.{take_port};
 ghost use Rattle.wire_base.specs.Faults.{Gives};
 ghost use Rattle.wire_base.specs.Input.{left};
 ghost use Rattle.wire_base.specs.Moving.{TakesOctets, AppendsOctets};
+ghost use Rattle.param_text_spec.specs.PrintedValues.{value_printed};
 
 use registry::{ComposeSvcParamValue, Integer, ParseSvcParamValue, SvcParamKey, SvcParamValue};
+use std::fmt;
 use std::marker::Model;
 use wire_base::{NoMemory, ParseError, Parser};
 
@@ -96,5 +98,14 @@ impl ComposeSvcParamValue for Port {
 
     fn compose_value(&self, target: &mut Vec<u8>) -> Result<(), NoMemory> {
         self.0.compose(target)
+    }
+}
+
+/// `port=` and the number.
+impl fmt::Display for Port {
+    ghost output = { λ port. Some (value_printed (values.Port port)) };
+
+    fn fmt<W: fmt::Write>(&self, f: &mut fmt::Formatter<W>) -> fmt::Result {
+        write!(f, "port={}", self.0)
     }
 }

@@ -9,11 +9,13 @@ ghost use Rattle.wire_base.specs.Input.{left};
 ghost use Rattle.wire_base.specs.Moving.{TakesAll, AppendsOctets, LacksRoom};
 ghost use Rattle.registry.specs.Reading.{behind};
 ghost use Rattle.svcb_value.specs.Parameters.{take_param, taking_param, param_len, param_wire};
+ghost use Rattle.param_text_spec.specs.PrintedValues.{value_printed};
 
 use crate::parameter::{compose_param, split_param};
 use crate::unknown_ref::UnknownSvcParamRef;
 use registry::{ComposeSvcParamValue, LongSvcParam, SvcParamKey, SvcParamValue};
 use std::alloc::Global;
+use std::fmt;
 use std::marker::Model;
 use wire_base::{NoMemory, Octets, ParseError, Parser};
 
@@ -174,5 +176,14 @@ impl ComposeSvcParamValue for UnknownSvcParam {
     fn compose_value(&self, target: &mut Vec<u8>) -> Result<(), NoMemory> {
         target.extend_from_slice(self.value.as_slice())?;
         Ok(())
+    }
+}
+
+/// The text of a view of the parameter.
+impl fmt::Display for UnknownSvcParam {
+    ghost output = { λ param. Some (value_printed param) };
+
+    fn fmt<W: fmt::Write>(&self, f: &mut fmt::Formatter<W>) -> fmt::Result {
+        write!(f, "{}", self.for_ref())
     }
 }

@@ -8,8 +8,9 @@ use registry::{
     ComposeSvcParamValue, LongSvcParam, ParseSvcParamValue, SvcParamKey, SvcParamValue,
 };
 use std::alloc::Global;
+use std::fmt;
 use std::hash::{Hash, Hasher};
-use wire_base::{NoMemory, Octets, ParseError, Parser};
+use wire_base::{NoMemory, Octets, ParseError, Parser, PrintedOctets};
 
 /// A view of a service parameter whose value is any octets, at most 65,535. Any key is allowed, also one that has a
 /// type. Equality looks at key and octets.
@@ -165,5 +166,45 @@ impl<'a> ComposeSvcParamValue for UnknownSvcParamRef<'a> {
     fn compose_value(&self, target: &mut Vec<u8>) -> Result<(), NoMemory> {
         target.extend_from_slice(self.slice)?;
         Ok(())
+    }
+}
+
+/// The key, and `=` and the octets as [`PrintedOctets`] has them. Without octets the key stands alone. A key that has a
+/// type is written by its number, as `key3`, since under its name stand values of the type alone.
+impl<'a> fmt::Display for UnknownSvcParamRef<'a> {
+    ghost use Rattle.std.specs.Prelude.{Some};
+    ghost use Rattle.param_text_spec.specs.PrintedValues.{value_printed};
+    ghost use Rattle.svcb_value.specs.UnknownView.{seen_unknown};
+
+    ghost output = { λ view. Some (value_printed (seen_unknown view)) };
+
+    fn fmt<W: fmt::Write>(&self, f: &mut fmt::Formatter<W>) -> fmt::Result {
+        let key = OpaqueKey(self.key());
+        if self.slice.is_empty() {
+            write!(f, "{key}")
+        } else {
+            write!(f, "{key}={}", PrintedOctets::new(self.slice))
+        }
+    }
+}
+
+/// A key whose value may be any octets.
+#[derive(Clone, Copy)]
+struct OpaqueKey(SvcParamKey);
+
+impl fmt::Display for OpaqueKey {
+    ghost use Rattle.std.specs.Prelude.{Some};
+    ghost use Rattle.param_text_spec.specs.PrintedValues.{opaque_key_name};
+
+    ghost output = { λ key. Some (opaque_key_name key.0) };
+
+    fn fmt<W: fmt::Write>(&self, f: &mut fmt::Formatter<W>) -> fmt::Result {
+        let number = u16::from(self.0);
+        // the keys up to this one have a type
+        if number <= u16::from(SvcParamKey::TLS_SUPPORTED_GROUPS) {
+            write!(f, "key{number}")
+        } else {
+            write!(f, "{}", self.0)
+        }
     }
 }

@@ -1,0 +1,60 @@
+//! Lists of items as text (RFC 9460, appendix A.1).
+
+ghost use Rattle.std.specs.Prelude.{◌≡◌, ℕ, [], ◌∷◌, Some};
+ghost use Rattle.std.specs.Fmt.{WritesOnOk};
+ghost use Rattle.printed_spec.specs.Printed.{printed_octets};
+ghost use Rattle.param_text_spec.specs.ListTexts.{escaped_item};
+ghost use Rattle.param_text_spec.specs.PrintedValues.{value_printed};
+
+use crate::item_list::ItemListRef;
+use crate::list_type::ListItems;
+use std::fmt;
+use wire_base::PrintedOctets;
+
+/// The key, `=`, and the items with commas between them. A list without items is printed as nothing.
+impl<'a, T: ListItems<'a>> fmt::Display for ItemListRef<'a, T> {
+    ghost output = { λ view. Some (value_printed (T.value view.slice.now)) };
+
+    fn fmt<W: fmt::Write>(&self, f: &mut fmt::Formatter<W>) -> fmt::Result {
+        let mut items = self.iter();
+        let Some(first) = items.next() else {
+            return Ok(());
+        };
+        write!(f, "{}=", T::key())?;
+        T::write_item(first, f)?;
+        for item in items {
+            write!(f, ",")?;
+            T::write_item(item, f)?;
+        }
+        Ok(())
+    }
+}
+
+/// Writes an item that is octets, as [`PrintedOctets`] has them. A comma or a backslash of the item stands behind a
+/// backslash, which is itself printed as two.
+pub(crate) fn write_escaped<W: fmt::Write>(item: &[u8], f: &mut fmt::Formatter<W>) -> fmt::Result
+    ensures { WritesOnOk W.Write.write_str_gives f.old result
+        (printed_octets (escaped_item item.now)) f.new }
+{
+    for octet in item {
+        write!(f, "{}", EscapedOctet(*octet))?;
+    }
+    Ok(())
+}
+
+/// An octet of an item.
+#[derive(Clone, Copy)]
+struct EscapedOctet(u8);
+
+impl fmt::Display for EscapedOctet {
+    ghost output = { λ escaped. Some (printed_octets (escaped_item (escaped.0 ∷ []))) };
+
+    fn fmt<W: fmt::Write>(&self, f: &mut fmt::Formatter<W>) -> fmt::Result {
+        let octet = self.0;
+        if octet == b',' || octet == b'\\' {
+            write!(f, "{}", PrintedOctets::new(&[b'\\', octet]))
+        } else {
+            write!(f, "{}", PrintedOctets::new(&[octet]))
+        }
+    }
+}
