@@ -1,0 +1,121 @@
+//! The texts of names and of octets (RFC 1035, section 5.1).
+
+use dns_text::{Entry, EntryScanner, ScanError, Scanner};
+use std::alloc::Global;
+use wire_base::{Name, Octets, ParseError, PrintedOctets};
+
+/// The wire form of the name that a text's one token spells.
+fn scan_wire(alloc: Global, text: &[u8]) -> Result<Octets, ScanError> {
+    let entry = Entry::from_text(text)?;
+    let mut scanner = EntryScanner::new(entry);
+    let name = scanner.scan_name(alloc)?;
+    scanner.check_end()?;
+    let octets = Octets::from_slice(alloc, name.as_slice())?;
+    Ok(octets)
+}
+
+/// Texts of names, and their wire forms.
+const NAMES: [(&[u8], &[u8]); 9] = [
+    (b".", b"\x00"),
+    (b"a.", b"\x01a\x00"),
+    (b"a\\.b.c", b"\x03a.b\x01c\x00"),
+    (b"a\"b.c\".", b"\x02ab\x01c\x00"),
+    (b"\\@", b"\x01@\x00"),
+    (b"@.", b"\x01@\x00"),
+    (b"@a", b"\x02@a\x00"),
+    (b"\\000\\255.x", b"\x02\x00\xff\x01x\x00"),
+    (
+        b"aaaaaaaaaaaaaaaaaaaaaaaaaaaaaaaaaaaaaaaaaaaaaaaaaaaaaaaaaaaaaaa",
+        b"\x3faaaaaaaaaaaaaaaaaaaaaaaaaaaaaaaaaaaaaaaaaaaaaaaaaaaaaaaaaaaaaaa\x00",
+    ),
+];
+
+#[test]
+fn names_are_scanned(rt: HostRuntime) {
+    for (text, wire) in &NAMES {
+        let found = scan_wire(rt.alloc(), text);
+        assert!(rt; matches!(&found, Ok(octets) if octets.as_slice() == *wire));
+    }
+}
+
+/// Texts that are no names: without a label, with an empty one, a lone `@`, a label of 64 octets.
+const NO_NAMES: [&[u8]; 8] = [
+    b"\"\"",
+    b"@",
+    b"\"@\"",
+    b"..",
+    b"a..b",
+    b".a",
+    b"a..",
+    b"aaaaaaaaaaaaaaaaaaaaaaaaaaaaaaaaaaaaaaaaaaaaaaaaaaaaaaaaaaaaaaaa",
+];
+
+#[test]
+fn other_texts_are_no_names(rt: HostRuntime) {
+    for text in &NO_NAMES {
+        let found = scan_wire(rt.alloc(), text);
+        assert!(rt; matches!(found, Err(ScanError::BadName)));
+    }
+}
+
+/// The octets of the name of four labels, three of which have 63 octets, and the last so many.
+fn long_name(alloc: Global, last: usize) -> Result<usize, ScanError> {
+    let mut text = Vec::new(alloc);
+    for len in [63, 63, 63, last] {
+        for _ in 0..len {
+            text.push(b'a')?;
+        }
+        text.push(b'.')?;
+    }
+    let wire = scan_wire(alloc, text.as_slice())?;
+    Ok(wire.len())
+}
+
+#[test]
+fn names_have_at_most_255_octets(rt: HostRuntime) {
+    assert!(rt; long_name(rt.alloc(), 61) == Ok(255));
+    assert!(rt; long_name(rt.alloc(), 62) == Err(ScanError::BadName));
+}
+
+/// The texts of a name, without and with its final dot.
+fn print_name(alloc: Global, wire: &[u8]) -> Result<(String, String), ParseError> {
+    let name = Name::from_octets(Octets::from_slice(alloc, wire)?)?;
+    let Ok(text) = format!(in alloc; "{name}") else {
+        return Err(ParseError::NoMemory);
+    };
+    let Ok(dotted) = format!(in alloc; "{}", name.fmt_with_dot()) else {
+        return Err(ParseError::NoMemory);
+    };
+    Ok((text, dotted))
+}
+
+/// Names in wire form, and their texts without and with the final dot.
+const PRINTED: [(&[u8], &str, &str); 4] = [
+    (b"\x00", ".", "."),
+    (b"\x03foo\x07example\x00", "foo.example", "foo.example."),
+    (b"\x03a.b\x01@\x00", "a\\.b.@", "a\\.b.@."),
+    (
+        b"\x05 \";()\x03\x00\x7f\xff\x00",
+        "\\ \\\"\\;\\(\\).\\000\\127\\255",
+        "\\ \\\"\\;\\(\\).\\000\\127\\255.",
+    ),
+];
+
+#[test]
+fn names_are_printed(rt: HostRuntime) {
+    for (wire, text, dotted) in &PRINTED {
+        let found = print_name(rt.alloc(), wire);
+        assert!(rt;
+            matches!(&found, Ok(texts)
+            if texts.0.as_str() == *text && texts.1.as_str() == *dotted)
+        );
+    }
+}
+
+#[test]
+fn octets_are_printed(rt: HostRuntime) -> Result<(), std::test::Fail> {
+    let octets = PrintedOctets::new(b"hello\xd2qoo \\.\t\x7f~");
+    let text = format!(in rt.alloc(); "{octets}")?;
+    assert!(rt; text.as_str() == "hello\\210qoo\\ \\\\.\\009\\127~");
+    Ok(())
+}
