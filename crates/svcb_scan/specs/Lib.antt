@@ -1,0 +1,4 @@
+pub mod Items
+pub mod ScanningValues
+pub mod ValueFaults
+pub mod Lists
