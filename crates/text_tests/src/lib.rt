@@ -6,10 +6,14 @@ mod data;
 #[cfg(test)]
 mod entries;
 #[cfg(test)]
+mod errors;
+#[cfg(test)]
 mod layouts;
 #[cfg(test)]
 mod names;
 #[cfg(test)]
 mod own_scanner;
+#[cfg(test)]
+mod records;
 #[cfg(test)]
 mod scanning;

@@ -6,6 +6,10 @@ mod all_values;
 #[cfg(test)]
 mod lists;
 #[cfg(test)]
+mod scans;
+#[cfg(test)]
+mod texts;
+#[cfg(test)]
 mod values;
 #[cfg(test)]
 mod weight;
