@@ -1,5 +1,5 @@
 -- The tokens of a map's texts spell that map. Offered to the crates above: `AreSpelled`, `AreNew`, `values_at-spelled`,
--- `one_token`, `params_again` and `params_text_again`.
+-- `one_token`, `params_again`, `has_tokens-spaced`, `tokens_of_texts` and `params_text_again`.
 use Rattle.std.proofs.Common.{◌≡◌, ℕ, ◌+◌, ◌<◌, ◌≤◌, true, false, cond, ◌&&◌, ◌||◌, List, [], ◌∷◌, ◌++◌, map, length, Result, Ok, Err, refl, sym, ap, ap₂, ◌∙◌, subst, arith, append_assoc, append-nil, add-zero, zero-add}
 use Rattle.std.specs.Prelude.{◌==◌, nat_le}
 use Rattle.std.specs.List.{list_all, join_with_byte}
@@ -192,7 +192,7 @@ params_again pairs is_map octets front tokens are =
 -- ---- the text of a map
 
 -- texts with a space between them have their tokens
-has_tokens-spaced : (texts : List (List ℕ)) (tokens : List (List Symbol)) → AreTokenTexts texts tokens → HasTokens (join_with_byte 32 texts) tokens
+pub has_tokens-spaced : (texts : List (List ℕ)) (tokens : List (List Symbol)) → AreTokenTexts texts tokens → HasTokens (join_with_byte 32 texts) tokens
 has_tokens-spaced [] [] are = entry_from_gap 0 [] [] has_no_tokens
 has_tokens-spaced [] (token ∷ tokens) are = absurd are
 has_tokens-spaced (text ∷ texts) [] are = absurd are
@@ -203,7 +203,7 @@ has_tokens-spaced (text ∷ next ∷ texts) (token ∷ tokens) are =
     token_on 0 (32 ∷ rest) tokens text token are.0 (blank_on 0 rest tokens 32 refl (has_tokens-spaced (next ∷ texts) tokens are.1))
 
 -- each pair's text has a token
-tokens_of_texts : (pairs : Pairs) (least : ℕ) (found : Pairs) → Ascends least found → HaveOctets found
+pub tokens_of_texts : (pairs : Pairs) (least : ℕ) (found : Pairs) → Ascends least found → HaveOctets found
     → (tokens : List (List Symbol)) × AreTokenTexts (map (pair_printed pairs) found) tokens
 tokens_of_texts pairs least [] ascends octets = ([], tt)
 tokens_of_texts pairs least (pair ∷ found) ascends octets =

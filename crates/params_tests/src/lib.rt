@@ -1,4 +1,4 @@
-//! Tests of service parameters and their builder.
+//! Tests of service parameters, their builder and their scan.
 #![tactic(auto)]
 
 #[cfg(test)]
@@ -9,3 +9,7 @@ mod level;
 mod overlay;
 #[cfg(test)]
 mod reading;
+#[cfg(test)]
+mod scans;
+#[cfg(test)]
+mod texts;

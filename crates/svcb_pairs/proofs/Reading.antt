@@ -1,4 +1,4 @@
--- Parameters that were read from octets.
+-- Parameters that were read from octets. Offered to the crates above.
 use Rattle.std.proofs.Common.{◌≡◌, ℕ, ◌+◌, ◌<◌, subst, List, [], ◌∷◌, length, None, Result, Ok, Err, refl, sym, ap, ◌∙◌, arith}
 use Rattle.std.specs.Prelude.{◌==◌, slice_index, slice_range}
 use Rattle.std.specs.Result.{result_err, result_unwrap_or}

@@ -4,3 +4,4 @@ pub mod Laws
 pub mod PushErrors
 pub mod ValueFaults
 pub mod OverlayState
+pub mod Scanned

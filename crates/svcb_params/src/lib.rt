@@ -12,6 +12,8 @@ mod params;
 mod params_error;
 mod params_ref;
 mod raw_iter;
+mod scan;
+mod texts;
 mod typed_pushes;
 mod value_iter;
 

@@ -1,0 +1,6 @@
+mod Tests
+mod HeldKeys
+mod OwnTexts
+mod Distinct
+mod PairTexts
+mod Documents

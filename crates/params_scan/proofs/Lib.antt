@@ -1,0 +1,5 @@
+pub mod Insertions
+pub mod OneMore
+pub mod MandatoryKeys
+pub mod NextTokens
+pub mod AllTokens
