@@ -1,4 +1,6 @@
+mod DocumentParts
 pub mod Pushes
 pub mod Records
 pub mod ReaderLaws
 pub mod Refusals
+mod TextLemmas

@@ -4,3 +4,4 @@ pub mod Pushing
 pub mod Reading
 pub mod Comparing
 pub mod Laws
+pub mod Texts

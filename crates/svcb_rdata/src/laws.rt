@@ -2,11 +2,14 @@
 //! `svcb_spec::laws`.
 
 ghost use Rattle.std.specs.Prelude.{◌≡◌, Ok, length};
+ghost use Rattle.printed_spec.specs.Laws.{AreOctets};
 ghost use Rattle.svcb_spec.specs.Records.{read};
 ghost use Rattle.wire_base.specs.Faults.{Gives};
 ghost use Rattle.svcb_rdata.specs.Reading.{record_pairs};
 ghost use Rattle.svcb_rdata.specs.Laws.{AcceptedRead, AreRebuilt};
+ghost use Rattle.rdata_text_laws.specs.Laws.{IsData};
 
+use crate::rdata::SvcbRdata;
 use crate::rebuild::read_record;
 use svcb_params::RawIter;
 use wire_base::ParseError;
@@ -15,6 +18,22 @@ use wire_base::ParseError;
 /// do, whatever malformed values the parameters held. The function does nothing when it runs.
 pub fn accepted_read()
     ensures { AcceptedRead }
+{}
+
+/// The parts of any data are made of octets, which is what the laws of `rdata_text_laws` on printed texts ask of it. The
+/// function does nothing when it runs.
+pub fn made_of_octets<V>(found: &SvcbRdata<V>)
+    ensures { IsData found.now }
+{
+    let _priority = found.priority();
+    let _len = found.len();
+    are_octets(found.target().as_slice());
+    are_octets(found.params().as_slice());
+}
+
+/// Octets are numbers below 256.
+fn are_octets(octets: &[u8])
+    ensures { AreOctets octets.now }
 {}
 
 /// All parameters of octets that are record data as a whole, by ascending keys: of data that was rebuilt each pair of the

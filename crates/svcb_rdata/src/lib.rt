@@ -8,6 +8,7 @@ mod rdata;
 mod rebuild;
 mod replies;
 mod svcb_ref;
+mod texts;
 mod variant;
 
 pub use errors::RebuildError;

@@ -150,7 +150,7 @@ impl<V> SvcbRdata<V> {
     }
 
     /// The count of octets.
-    fn len(&self) -> u16
+    pub(crate) fn len(&self) -> u16
         ensures { result ≡ length (rdata self.now.priority self.now.labels self.now.pairs) }
     {
         2 + self.target.compose_len() + self.params.len() as u16

@@ -1,0 +1,3 @@
+pub mod DataTexts
+pub mod DataDocuments
+pub mod DocumentLaws

@@ -1,0 +1,77 @@
+//! Record data of SVCB and HTTPS as text (RFC 9460, section 2.1).
+
+ghost use Rattle.std.specs.Prelude.{◌≡◌, Some};
+ghost use Rattle.text_spec.specs.Scanning.{Scan, Scans, ScansPart};
+ghost use Rattle.rdata_text_spec.specs.DataTexts.{data_printed, svcb_data};
+ghost use Rattle.rdata_text_spec.specs.DataDocuments.{svcb_document};
+ghost use Rattle.rdata_text_spec.specs.DocumentLaws.{document-svcb};
+ghost use Rattle.svcb_rdata.specs.Texts.{ReadsBack};
+
+use crate::rdata::SvcbRdata;
+use dns_text::{Formatter, ScanError, Scanner, ZonefileFmt};
+use std::alloc::Global;
+use std::fmt;
+use svcb_params::SvcParams;
+use wire_base::NoMemory;
+
+impl<V> SvcbRdata<V> {
+    /// The data that all tokens left spell: the priority, the target, and the parameters in any order.
+    ///
+    /// The first fault in reading order refuses it, and the scanner then stands where is said here. `BadNumber`: the
+    /// first token is no number text of at most 65,535; before it. `BadName`: the second is no name text, as
+    /// [`Scanner::scan_name`] reads it; before it. `EndOfEntry`: one of these two is missing; at the entry's end. A
+    /// fault of the parameters: as [`SvcParams::scan`] has it. `LongRecord`: the data would have more than 65,535
+    /// octets; at the entry's end. `NoMemory`: want of memory; where the scan began.
+    ///
+    /// Where the tokens are those of the text that some data prints, the answer is that data, or `NoMemory`.
+    #[tactic(auto, using(crate::proofs::TextLemmas::reads_back))]
+    pub fn scan<S: Scanner>(alloc: Global, scanner: &mut S) -> Result<SvcbRdata<V>, ScanError>
+        ensures scans { Scans (λ found. found) svcb_data
+            (S.scan scanner.old) (S.scan scanner.new) result }
+        ensures read_back { ReadsBack (S.scan scanner.old) result }
+    {
+        let place = scanner.taken();
+        let outcome = scan_parts(alloc, scanner);
+        scanner.stay_without_memory(place, outcome)
+    }
+}
+
+/// The same, where for want of memory tokens may be taken.
+fn scan_parts<V, S: Scanner>(alloc: Global, scanner: &mut S) -> Result<SvcbRdata<V>, ScanError>
+    ensures { ScansPart (λ found. found) svcb_data
+        (S.scan scanner.old) (S.scan scanner.new) result }
+{
+    let priority = scanner.scan_u16(alloc)?;
+    let target = scanner.scan_name(alloc)?;
+    let params = SvcParams::scan(alloc, scanner)?;
+    SvcbRdata::new(priority, target, params).map_err(|_| ScanError::LongRecord)
+}
+
+/// The priority, the target with its final dot and the parameters, with a space between two of them: data without
+/// parameters ends in a space.
+impl<V> fmt::Display for SvcbRdata<V> {
+    ghost output = { λ found. Some (data_printed found) };
+
+    fn fmt<W: fmt::Write>(&self, f: &mut fmt::Formatter<W>) -> fmt::Result {
+        let target = self.target().fmt_with_dot();
+        write!(f, "{} {} {}", self.priority(), target, self.params())
+    }
+}
+
+/// A block: the priority and the target with its final dot, each with a comment that names it, and the block of the
+/// parameters.
+impl<V> ZonefileFmt for SvcbRdata<V> {
+    ghost document = { λ found. svcb_document found };
+
+    ghost is_document = { λ found. document-svcb found };
+
+    fn fmt_zone(&self, f: &mut Formatter) -> Result<(), NoMemory> {
+        f.begin_block()?;
+        f.write_decimal(u32::from(self.priority()))?;
+        f.write_comment("priority")?;
+        f.write_name(self.target())?;
+        f.write_comment("target")?;
+        f.write_show(self.params())?;
+        f.end_block()
+    }
+}
