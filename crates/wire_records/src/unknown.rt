@@ -1,13 +1,13 @@
 //! Record data of any type.
 
 ghost use Rattle.std.specs.Prelude.{◌≡◌, ◌≤◌, ◌<◌, [], ◌∷◌, Some, refl, length, IfOk, OnOk, OnErr};
-ghost use Rattle.hex.specs.Hex.{encode_upper};
 ghost use Rattle.wire_base.specs.Faults.{GivesCopy};
 ghost use Rattle.wire_base.specs.Input.{left};
 ghost use Rattle.wire_base.specs.Moving.{TakesAll};
 ghost use Rattle.wire_records.specs.Reading.{unknown_read};
 ghost use Rattle.wire_records.specs.Texts.{unknown_text};
 
+use crate::base16::Base16;
 use std::alloc::Global;
 use std::cmp::Ordering;
 use std::fmt;
@@ -101,35 +101,8 @@ impl fmt::Display for UnknownRecordData {
         if octets.is_empty() {
             return Ok(());
         }
-        write!(f, " {}", Base16(octets))
-    }
-}
-
-/// Octets in base16.
-#[derive(Clone, Copy)]
-struct Base16<'a>(&'a [u8]);
-
-impl fmt::Display for Base16<'_> {
-    ghost output = { λ digits. Some (encode_upper digits.0.now) };
-
-    fn fmt<W: fmt::Write>(&self, f: &mut fmt::Formatter<W>) -> fmt::Result {
-        for octet in self.0 {
-            write!(f, "{}", Base16Octet(*octet))?;
-        }
-        Ok(())
-    }
-}
-
-/// An octet as two upper-case digits.
-#[derive(Clone, Copy)]
-struct Base16Octet(u8);
-
-impl fmt::Display for Base16Octet {
-    ghost output = { λ digits. Some (encode_upper (digits.0 ∷ [])) };
-
-    fn fmt<W: fmt::Write>(&self, f: &mut fmt::Formatter<W>) -> fmt::Result {
-        let octet = self.0;
-        write!(f, "{octet:02X}")
+        let is_upper = true;
+        write!(f, " {}", Base16 { octets, is_upper })
     }
 }
 

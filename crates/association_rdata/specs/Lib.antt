@@ -1,0 +1,5 @@
+pub mod Forms
+pub mod FieldsView
+pub mod ScanningParts
+pub mod ComparingLaws
+pub mod LayoutParts

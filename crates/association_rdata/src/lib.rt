@@ -1,0 +1,28 @@
+//! Record data that ties a name to keys, digests and certificates: CDS, CDNSKEY, SSHFP, TLSA, ZONEMD and OPENPGPKEY.
+//!
+//! Each type is [`FieldsData`] over its fixed fields, so all calls but constructors and readers stand once.
+#![tactic(auto)]
+
+mod association_fields;
+mod cdnskey;
+mod cds;
+mod comparisons;
+mod fields_data;
+mod form;
+mod last_field;
+mod octets;
+mod openpgpkey;
+mod sshfp;
+mod tlsa;
+mod zonemd;
+
+pub use association_fields::AssociationFields;
+pub use cdnskey::{Cdnskey, CdnskeyFields};
+pub use cds::{Cds, CdsFields};
+pub use fields_data::FieldsData;
+pub use form::Form;
+pub use last_field::LastText;
+pub use openpgpkey::{Openpgpkey, OpenpgpkeyFields};
+pub use sshfp::{Sshfp, SshfpFields};
+pub use tlsa::{Tlsa, TlsaFields};
+pub use zonemd::{Zonemd, ZonemdFields};

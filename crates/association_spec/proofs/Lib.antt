@@ -1,0 +1,2 @@
+pub mod OctetLists
+mod Vectors

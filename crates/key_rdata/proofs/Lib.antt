@@ -1,0 +1,4 @@
+pub mod NameLen
+pub mod Orders
+pub mod PrintedData
+pub mod ScannedFields

@@ -1,0 +1,20 @@
+-- The data of IPSECKEY records, as contracts see it.
+use Rattle.std.specs.Prelude.{ℕ, List}
+use Rattle.association_spec.specs.Ipseckeys as spec
+use Rattle.key_rdata.specs.declared.gateway.IpseckeyGateway.{IpseckeyGateway}
+use Rattle.key_rdata.specs.declared.ipseckey_ref.IpseckeyRef.{IpseckeyRef}
+use Rattle.key_rdata.specs.GatewayView.{gateway_of, seen_gateway}
+
+-- the data of these fields
+abbrev pub ipseckey_of : ℕ → ℕ → IpseckeyGateway → List ℕ → spec.Ipseckey
+ipseckey_of precedence algorithm gateway key =
+    record { precedence = precedence; algorithm = algorithm; gateway = gateway_of gateway; key = key }
+
+-- the data that is seen in a message
+abbrev pub seen_ipseckey : IpseckeyRef → spec.Ipseckey
+seen_ipseckey found = record {
+  precedence = found.precedence;
+  algorithm = found.algorithm;
+  gateway = seen_gateway found.gateway;
+  key = found.key.now;
+}

@@ -1,0 +1,5 @@
+pub mod GatewayView
+pub mod IpseckeyView
+pub mod OctetsComparing
+pub mod LayoutParts
+pub mod ScanningParts

@@ -1,0 +1,77 @@
+//! Record data of IPSECKEY in a message.
+
+ghost use Rattle.std.specs.Prelude.{◌≡◌, ◌≤◌, IfOk};
+ghost use Rattle.wire_base.specs.Faults.{Gives};
+ghost use Rattle.association_spec.specs.Ipseckeys.{ipseckey_len};
+ghost use Rattle.association_spec.specs.IpseckeyWire.{ipseckey_read};
+ghost use Rattle.key_rdata.specs.IpseckeyView.{seen_ipseckey};
+
+use crate::gateway_ref::GatewayRef;
+use crate::ipseckey::{Ipseckey, lacks_key};
+use key_registry::{IpseckeyAlgorithm, IpseckeyGatewayType};
+use std::alloc::Global;
+use wire_base::{LongRecordData, NoMemory, Octets, ParseError, Parser};
+
+/// The data of an IPSECKEY record in a message, which stays where it is.
+#[derive(Debug, Drop)]
+pub(crate) struct IpseckeyRef<'a> {
+    precedence: u8,
+    algorithm: IpseckeyAlgorithm,
+    gateway: GatewayRef<'a>,
+    key: &'a [u8],
+}
+
+impl<'a> IpseckeyRef<'a> {
+    /// Reads the data in place, in all octets before the end of the data. Where it is refused, the parser stands
+    /// anywhere within the data.
+    fn read(parser: &mut Parser<'a>) -> Result<IpseckeyRef<'a>, ParseError>
+        ensures answer { Gives
+            (λ found. record { value = seen_ipseckey found; next = parser.old.end })
+            result (ipseckey_read parser.old) }
+        ensures fits { IfOk result (λ found. ipseckey_len (seen_ipseckey found) ≤ 65535) }
+        ensures within { parser.new ≡ record parser.old { pos = parser.new.pos } }
+    {
+        let len = parser.remaining();
+        let precedence = parser.parse_u8()?;
+        let gateway_type = IpseckeyGatewayType::from(parser.parse_u8()?);
+        let algorithm = IpseckeyAlgorithm::from(parser.parse_u8()?);
+        let gateway = GatewayRef::read(parser, gateway_type)?;
+        let key = parser.peek_all();
+        if lacks_key(algorithm, key) {
+            return Err(ParseError::ShortInput);
+        }
+        LongRecordData::check_len(len)?;
+        Ok(IpseckeyRef {
+            precedence,
+            algorithm,
+            gateway,
+            key,
+        })
+    }
+
+    /// The data in all octets before the end of the data. The parser stays.
+    pub(crate) fn peek(parser: &mut Parser<'a>) -> Result<IpseckeyRef<'a>, ParseError>
+        ensures answer { Gives
+            (λ found. record { value = seen_ipseckey found; next = parser.old.end })
+            result (ipseckey_read parser.old) }
+        ensures fits { IfOk result (λ found. ipseckey_len (seen_ipseckey found) ≤ 65535) }
+        ensures stays { parser.new ≡ parser.old }
+    {
+        let start = parser.pos();
+        let found = IpseckeyRef::read(parser);
+        parser.seek(start)?;
+        found
+    }
+
+    /// The same data by itself.
+    ///
+    /// `NoMemory`: the memory for the copy isn't there.
+    pub(crate) fn to_owned_data(&self, alloc: Global) -> Result<Ipseckey, NoMemory>
+        requires { ipseckey_len (seen_ipseckey self.now) ≤ 65535 }
+        ensures { IfOk result (λ owned. owned ≡ seen_ipseckey self.now) }
+    {
+        let gateway = self.gateway.to_gateway(alloc)?;
+        let key = Octets::from_slice(alloc, self.key)?;
+        Ok(Ipseckey::new(self.precedence, self.algorithm, gateway, key))
+    }
+}
