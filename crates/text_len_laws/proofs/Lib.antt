@@ -1,0 +1,4 @@
+pub mod Pieces
+pub mod Addresses
+pub mod Values
+pub mod DataLengths
