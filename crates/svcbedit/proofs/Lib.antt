@@ -1,3 +1,8 @@
 pub mod LineLemmas
 pub mod NumberLemmas
 pub mod SpellingLemmas
+pub mod TokenLemmas
+pub mod ReadData
+pub mod Back
+pub mod GenLemmas
+mod Vectors

@@ -3,17 +3,26 @@ use Rattle.std.specs.Prelude.{ℕ, Bool, true, false, nat_lt, if◌then◌else�
 use Rattle.std.specs.Option.{option_map}
 use Rattle.devices.specs.declared.transfer.TheConstants.{MAX_INPUT}
 use Rattle.svcbedit.specs.Edit.{edited}
+use Rattle.svcbedit.specs.Generate.{generated}
 use Rattle.svcbedit.specs.Report.{Answer, no_command, too_long}
+use Rattle.svcbedit.specs.Scan.{scanned}
+use Rattle.svcbedit.specs.Show.{shown}
 use Rattle.svcbedit.specs.declared.words.Command.{Command}
-use Rattle.svcbedit.specs.declared.words.Command.TheVariants.{Edit}
+use Rattle.svcbedit.specs.declared.words.Command.TheVariants.{Edit, Show, Scan, Gen}
 
 -- the answer of a command to an input that isn't too long
 unfoldable pub answer_of : Command → List ℕ → Answer
 answer_of Edit input = edited input
+answer_of (Show rtype) input = shown rtype input
+answer_of (Scan rtype) input = scanned rtype input
+answer_of (Gen count) input = generated count
 
 -- the command reads the input; one that doesn't is given an empty one
 unfoldable pub reads : Command → Bool
 reads Edit = true
+reads (Show rtype) = true
+reads (Scan rtype) = true
+reads (Gen count) = false
 
 -- the answer of a command to an input
 abbrev pub answer_to : Command → List ℕ → Answer

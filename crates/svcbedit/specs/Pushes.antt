@@ -1,5 +1,5 @@
 -- The lines of an input of `edit` that push a value.
-use Rattle.std.specs.Prelude.{ℕ, Option, Some, None, List, [], ◌∷◌, length, nat_lt, nat_le, ◌==◌, if◌then◌else◌, codes}
+use Rattle.std.specs.Prelude.{ℕ, Bool, Option, Some, None, List, [], ◌∷◌, length, take, drop, nat_lt, nat_le, ◌==◌, if◌then◌else◌, codes}
 use Rattle.std.specs.Result.{result_ok}
 use Rattle.std.specs.Str.{bytes_eq}
 use Rattle.hex.specs.Hex.{decode_of}
@@ -7,6 +7,7 @@ use Rattle.svcb_spec.specs.Values.{Value, Unknown}
 use Rattle.svcbedit.specs.Lines.{words}
 use Rattle.svcbedit.specs.Numbers.{decimal_number}
 use Rattle.svcbedit.specs.Places.{◌>>=◌}
+use Rattle.svcbedit.specs.TokenPushes.{token_push}
 
 -- the octets of an even count of hexadecimal digits, in either case
 abbrev pub hexadecimal_octets : List ℕ → Option (List ℕ)
@@ -34,11 +35,10 @@ raw_of_words (key ∷ []) = key_in_text key >>= λ number. raw_value number None
 raw_of_words (key ∷ hex ∷ []) = key_in_text key >>= λ number. raw_value number (Some hex)
 raw_of_words _ = None
 
--- `raw`, and one of those
-abbrev pub push_of_words : List (List ℕ) → Option Value
-push_of_words [] = None
-push_of_words (word ∷ more) = if bytes_eq word (codes "raw") then raw_of_words more else None
+-- the line begins with `raw` and a blank
+abbrev pub is_raw : List ℕ → Bool
+is_raw line = bytes_eq (take 4 line) (codes "raw ")
 
--- the value that a line pushes
+-- the value that a line pushes; one that begins with `raw` and a blank is only that
 abbrev pub push_of : List ℕ → Option Value
-push_of line = push_of_words (words line)
+push_of line = if is_raw line then raw_of_words (words (drop 4 line)) else token_push line

@@ -31,6 +31,14 @@ pub record Answer : Type 0 where
   pub status : ℕ
   pub report : List ℕ
 
+-- the command was done, and this is the line that it gives
+abbrev pub done : List ℕ → Answer
+done text = record { status = 0; report = line text }
+
+-- the input is well formed, and for this reason what it asks for can't be done
+abbrev pub not_done : List ℕ → Answer
+not_done reason = record { status = 3; report = line (codes "error: " ++ reason) }
+
 -- to words that are no command
 abbrev pub no_command : Answer
 no_command = record { status = 1; report = line (codes "refused: unknown command") }

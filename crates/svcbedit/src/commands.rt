@@ -4,7 +4,10 @@ ghost use Rattle.svcbedit.specs.Commands.{answer_to};
 ghost use Rattle.svcbedit.specs.ReportView.{answer_view};
 
 use crate::edit::edit_answer;
+use crate::generate::gen_answer;
 use crate::report::{Answer, Outcome, text_answer};
+use crate::scan::scan_answer;
+use crate::show::show_answer;
 use crate::words::Command;
 use devices::MAX_INPUT;
 use std::alloc::Global;
@@ -21,5 +24,8 @@ pub fn command_answer(alloc: Global, command: Command, input: &[u8]) -> Result<A
     }
     match command {
         Command::Edit => edit_answer(alloc, input),
+        Command::Show(rtype) => show_answer(alloc, rtype, input),
+        Command::Scan(rtype) => scan_answer(alloc, rtype, input),
+        Command::Gen(count) => gen_answer(alloc, count),
     }
 }

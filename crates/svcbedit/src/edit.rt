@@ -1,25 +1,34 @@
 //! What answers `edit`.
-ghost use Rattle.std.specs.Prelude.{◌≡◌, ◌+◌, ◌<◌, ◌≤◌, ◌^◌, length, map, IfOk};
+ghost use Rattle.std.specs.Prelude.{◌≡◌, ◌+◌, ◌<◌, ◌≤◌, ◌^◌, length, map, Result, IfOk};
+ghost use Rattle.svcb_spec.specs.Rebuilding as spec;
 ghost use Rattle.svcb_spec.specs.Rebuilding.{rebuild};
+ghost use Rattle.svcb_rdata.specs.RebuiltView.{IsRefusal};
 ghost use Rattle.svcb_text.specs.AllValues.{value_of};
-ghost use Rattle.svcbedit.specs.Edit.{refused, rebuilt, edited};
+ghost use Rattle.svcbedit.specs.Edit.{reported, rebuilt, edited};
+ghost use Rattle.svcbedit.specs.Report as report;
 ghost use Rattle.svcbedit.specs.ReportView.{answer_view};
 
-use crate::report::{Answer, Outcome, done_report, text_answer};
-use crate::spelling::{InputFault, SpellError, Spelling, read_spelling};
+use crate::report::{Answer, Outcome, done_report, refused_answer, text_answer};
+use crate::spelling::{SpellError, Spelling, read_spelling};
 use devices::MAX_INPUT;
 use std::alloc::Global;
 use svcb_rdata::{RebuildError, rebuild_svcb};
 use wire_base::{NoMemory, ParseError};
 
-/// The answer to an input with a fault of form.
-fn refused_answer(alloc: Global, fault: InputFault) -> Result<Answer, NoMemory>
-    ensures { IfOk result (λ answer. answer_view answer ≡ refused fault) }
+/// The answer where nothing was rebuilt, for this reason. Refused for want of memory alone.
+pub fn refusal_answer(alloc: Global, error: RebuildError) -> Result<Answer, NoMemory>
+    ensures { (whole : spec.Rebuilt → report.Answer) (given : Result spec.Rebuilt spec.Refusal)
+        → IsRefusal error given
+        → IfOk result (λ answer. answer_view answer ≡ reported whole given) }
 {
-    Ok(Answer {
-        outcome: Outcome::BadInput,
-        report: format!(in alloc; "refused: {fault}\n")?,
-    })
+    let text = match error {
+        RebuildError::Parse(ParseError::ShortInput) => "error: short input\n",
+        RebuildError::Parse(ParseError::Form) => "error: form error\n",
+        RebuildError::ShortBuf => "error: short buffer\n",
+        RebuildError::LongRecordData => "error: long record data\n",
+        RebuildError::NoMemory | RebuildError::Parse(ParseError::NoMemory) => return Err(NoMemory),
+    };
+    text_answer(alloc, Outcome::NotDone, text)
 }
 
 /// The answer to a well-formed input.
@@ -45,19 +54,7 @@ fn rebuilt_answer(alloc: Global, spelling: &Spelling) -> Result<Answer, NoMemory
             outcome: Outcome::Done,
             report: done_report(alloc, &rebuilt)?,
         }),
-        Err(RebuildError::Parse(ParseError::ShortInput)) => {
-            text_answer(alloc, Outcome::NotDone, "error: short input\n")
-        }
-        Err(RebuildError::Parse(ParseError::Form)) => {
-            text_answer(alloc, Outcome::NotDone, "error: form error\n")
-        }
-        Err(RebuildError::ShortBuf) => {
-            text_answer(alloc, Outcome::NotDone, "error: short buffer\n")
-        }
-        Err(RebuildError::LongRecordData) => {
-            text_answer(alloc, Outcome::NotDone, "error: long record data\n")
-        }
-        Err(RebuildError::NoMemory | RebuildError::Parse(ParseError::NoMemory)) => Err(NoMemory),
+        Err(error) => refusal_answer(alloc, error),
     }
 }
 

@@ -12,17 +12,26 @@ use stop::Stop;
 
 mod commands;
 mod edit;
+#[cfg(test)]
+mod gen_tests;
+mod generate;
 mod hexadecimal;
+pub mod laws;
 mod lines;
 mod numbers;
 mod place;
 mod pushes;
 mod report;
 mod run;
+mod scan;
+mod show;
 mod spelling;
 mod stop;
 #[cfg(test)]
 mod tests;
+#[cfg(test)]
+mod text_tests;
+mod token_pushes;
 mod words;
 
 /// The words after the program's name.

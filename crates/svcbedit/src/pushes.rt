@@ -3,14 +3,19 @@ ghost use Rattle.std.specs.Prelude.{◌≡◌, ◌<◌, ◌≤◌, length, IfOk,
 ghost use Rattle.std.specs.Option.{option_map, option_copied};
 ghost use Rattle.svcb_spec.specs.Values.{Unknown};
 ghost use Rattle.svcb_text.specs.AllValues.{value_of};
-ghost use Rattle.svcbedit.specs.Pushes.{key_in_text, value_octets, raw_value, push_of};
+ghost use Rattle.svcbedit.specs.Lines.{words};
+ghost use Rattle.svcbedit.specs.Pushes.{key_in_text, value_octets, raw_value, raw_of_words, push_of};
 
 use crate::hexadecimal::octets_in;
 use crate::lines::Pieces;
 use crate::numbers::number;
+use crate::token_pushes::token_param;
 use std::alloc::Global;
 use svcb_rdata::{AllValues, SvcParamKey, UnknownSvcParam};
 use wire_base::{NoMemory, Octets};
+
+/// How a line begins that gives the octets of a value.
+const RAW: &[u8] = b"raw ";
 
 /// A line `raw KEY`, or `raw KEY HEX`.
 #[derive(Clone, Copy)]
@@ -26,16 +31,13 @@ fn key_in(text: &[u8]) -> Option<u16>
     u16::try_from(number(text)?).ok()
 }
 
-/// Takes a line apart, but for its hexadecimal.
-fn raw_line(line: &[u8]) -> Option<RawLine<'_>>
+/// Takes apart what follows `raw` and a blank, but for its hexadecimal.
+fn raw_line(text: &[u8]) -> Option<RawLine<'_>>
     ensures { MatchOption result
-        (push_of line.now ≡ None)
-        (λ raw. push_of line.now ≡ raw_value raw.key (option_copied raw.hex)) }
+        (raw_of_words (words text.now) ≡ None)
+        (λ raw. raw_of_words (words text.now) ≡ raw_value raw.key (option_copied raw.hex)) }
 {
-    let mut words = Pieces::new(line, b' ');
-    if words.next()? != b"raw".as_slice() {
-        return None;
-    }
+    let mut words = Pieces::new(text, b' ');
     let key = key_in(words.next()?)?;
     let hex = words.next();
     match words.next() {
@@ -54,11 +56,13 @@ fn param(key: u16, octets: Octets) -> Option<AllValues>
     Some(AllValues::from(param))
 }
 
-/// Reads the value of a line.
-fn raw_param(alloc: Global, raw: RawLine<'_>) -> Result<Option<AllValues>, NoMemory>
-    ensures { IfOk result (λ push. option_map value_of push
-        ≡ raw_value raw.entry.key (option_copied raw.entry.hex)) }
+/// Reads what follows `raw` and a blank.
+fn raw_param(alloc: Global, text: &[u8]) -> Result<Option<AllValues>, NoMemory>
+    ensures { IfOk result (λ push. option_map value_of push ≡ raw_of_words (words text.now)) }
 {
+    let Some(raw) = raw_line(text) else {
+        return Ok(None);
+    };
     let Some(hex) = raw.hex else {
         return Ok(param(raw.key, Octets::from_vec(Vec::new(alloc))));
     };
@@ -68,12 +72,12 @@ fn raw_param(alloc: Global, raw: RawLine<'_>) -> Result<Option<AllValues>, NoMem
     }
 }
 
-/// Reads `raw KEY` or `raw KEY HEX`. Refused for want of memory alone.
+/// Reads `raw KEY`, `raw KEY HEX`, or the text of a parameter. Refused for want of memory alone.
 pub fn push_in(alloc: Global, line: &[u8]) -> Result<Option<AllValues>, NoMemory>
     ensures { IfOk result (λ push. option_map value_of push ≡ push_of line.now) }
 {
-    match raw_line(line) {
-        Some(raw) => raw_param(alloc, raw),
-        None => Ok(None),
+    match line.strip_prefix(RAW) {
+        Some(text) => raw_param(alloc, text),
+        None => token_param(alloc, line),
     }
 }

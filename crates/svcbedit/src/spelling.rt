@@ -5,6 +5,7 @@ ghost use Rattle.svcbedit.specs.Lines.{lines};
 ghost use Rattle.svcbedit.specs.Places.{place_of};
 ghost use Rattle.svcbedit.specs.Pushes.{hexadecimal_octets};
 ghost use Rattle.svcbedit.specs.Faults.{fault_text, place_fault};
+ghost use Rattle.svcbedit.specs.Show.{spelled_octets};
 ghost use Rattle.svcbedit.specs.Spelling.{needed, pushes_of, spelled, SpellsAs};
 ghost use Rattle.svcbedit.specs.SpellingView.{spelled_view};
 ghost use Rattle.svcbedit.specs.declared.spelling.SpellError.TheVariants as errors;
@@ -103,15 +104,15 @@ fn place_line(input: &mut Lines<'_>) -> Result<Place, InputFault>
     line.and_then(place_in).ok_or(InputFault::BadLine(1))
 }
 
-/// Reads the second line.
-fn message_line(alloc: Global, input: &mut Lines<'_>) -> Result<Octets, SpellError>
-    ensures value { SpellsAs (λ message. message) result
-        (needed 2 (option_and_then hexadecimal_octets (slice_get input.old 0))) }
+/// Reads the next line, which has this number, as hexadecimal.
+fn octets_line(alloc: Global, input: &mut Lines<'_>, number: u64) -> Result<Octets, SpellError>
+    ensures value { SpellsAs (λ octets. octets) result
+        (needed number (option_and_then hexadecimal_octets (slice_get input.old 0))) }
     ensures rest { input.new ≡ drop 1 input.old }
 {
-    let line = input.next().ok_or(InputFault::BadLine(2))?;
-    let message = octets_in(alloc, line)?;
-    Ok(message.ok_or(InputFault::BadLine(2))?)
+    let line = input.next().ok_or(InputFault::BadLine(number))?;
+    let octets = octets_in(alloc, line)?;
+    Ok(octets.ok_or(InputFault::BadLine(number))?)
 }
 
 /// Tests a place in a message of so many octets, and its limit.
@@ -155,7 +156,7 @@ pub fn read_spelling(alloc: Global, input: &[u8]) -> Result<Spelling, SpellError
 {
     let mut lines = Lines::new(input);
     let place = place_line(&mut lines)?;
-    let message = message_line(alloc, &mut lines)?;
+    let message = octets_line(alloc, &mut lines, 2)?;
     check_place(&place, message.len())?;
     let pushes = push_lines(alloc, lines)?;
     Ok(Spelling {
@@ -163,4 +164,17 @@ pub fn read_spelling(alloc: Global, input: &[u8]) -> Result<Spelling, SpellError
         place,
         pushes,
     })
+}
+
+/// Reads an input of `show`: the octets of its only line. `Fault` is the first fault of form in it, and `NoMemory` want
+/// of memory for the octets.
+pub fn read_octets(alloc: Global, input: &[u8]) -> Result<Octets, SpellError>
+    ensures { SpellsAs (λ octets. octets) result (spelled_octets input.now) }
+{
+    let mut lines = Lines::new(input);
+    let octets = octets_line(alloc, &mut lines, 1)?;
+    if lines.next().is_some() {
+        return Err(SpellError::Fault(InputFault::BadLine(2)));
+    }
+    Ok(octets)
 }

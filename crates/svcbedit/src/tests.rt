@@ -18,13 +18,13 @@ fn words(rt: &HostRuntime, line: &str) -> Result<Vec<String>, AllocError> {
 
 /// How a run ended.
 #[derive(Drop)]
-struct Ended {
-    status: u8,
-    report: Vec<u8>,
+pub struct Ended {
+    pub status: u8,
+    pub report: Vec<u8>,
 }
 
 /// Runs a command line on an input, where the calls of these numbers fail.
-fn run_on(
+pub fn run_on(
     rt: &HostRuntime,
     line: &str,
     input: &str,
@@ -133,9 +133,81 @@ fn refuses_input(rt: HostRuntime) -> Result<(), Fail> {
     Ok(())
 }
 
+/// Lines that push, and the report on them.
+const PUSHED: [(&str, &str); 6] = [
+    (
+        "alpn=h2\nport=53\nport=54",
+        "accepted\naccepted\nduplicate key\n00010000010003026832000300020035\n",
+    ),
+    ("key1=\\002h2", "accepted\n00010000010003026832\n"),
+    ("\"port=53\"", "accepted\n000100000300020035\n"),
+    ("  port=53 ; c", "accepted\n000100000300020035\n"),
+    ("( port=53 )\r", "accepted\n000100000300020035\n"),
+    (
+        "raw 3 0035\nport=54",
+        "accepted\nduplicate key\n000100000300020035\n",
+    ),
+];
+
+/// Lines that push nothing: no entry, not one token, or one that spells no value.
+const BAD_LINES: [&str; 12] = [
+    "(port=53",
+    "\"port=53",
+    "port=53 x",
+    " raw 3 00",
+    "; port=53",
+    "raw",
+    "alpn=a\\\\b",
+    "Port=1",
+    "foo=1",
+    "ech=YQ",
+    "mandatory=mandatory",
+    "tls-supported-groups=29,23,29",
+];
+
+/// Whether `edit` ends so on lines that are to push, where the root is the target and no parameters were read.
+fn ends_on(rt: &HostRuntime, lines: &str, status: u8, report: &str) -> Result<bool, Fail> {
+    let input = format!(in rt.alloc(); "0 3 100\n000100\n{lines}\n")?;
+    let ended = run_on(rt, "edit", input.as_str(), &[], &[])?;
+    Ok(ended.status == status && ended.report.as_slice() == report.as_bytes())
+}
+
+#[test]
+fn pushes_texts(rt: HostRuntime) -> Result<(), Fail> {
+    for (lines, report) in &PUSHED {
+        assert!(rt; ends_on(&rt, lines, 0, report)?, "on {lines}");
+    }
+    Ok(())
+}
+
+#[test]
+fn refuses_texts(rt: HostRuntime) -> Result<(), Fail> {
+    for line in &BAD_LINES {
+        assert!(rt;
+            ends_on(&rt, line, 2, "refused: bad line 3\n")?,
+            "on {line}"
+        );
+    }
+    Ok(())
+}
+
 #[test]
 fn refuses_words(rt: HostRuntime) -> Result<(), Fail> {
-    for line in ["", "edit x", "show", "Edit"] {
+    for line in [
+        "",
+        "edit x",
+        "Edit",
+        "show",
+        "show mx",
+        "show SVCB",
+        "SHOW svcb",
+        "scan svcb x",
+        "gen",
+        "gen 0",
+        "gen 8001",
+        "gen 00001",
+        "gen +1",
+    ] {
         let ended = run_on(&rt, line, "0 3 0\n000100\n", &[], &[])?;
         assert_eq!(rt; ended.status, 1, "of {line}");
         assert_eq!(rt;

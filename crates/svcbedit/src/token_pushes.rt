@@ -1,0 +1,40 @@
+//! The lines of an input of `edit` that push what the text of a parameter spells.
+ghost use Rattle.std.specs.Prelude.{◌≡◌, IfOk};
+ghost use Rattle.std.specs.Option.{option_map};
+ghost use Rattle.svcb_text.specs.AllValues.{value_of};
+ghost use Rattle.svcbedit.specs.TokenPushes.{lone_token, token_push, ReadsAs};
+
+use dns_text::{Entry, EntryScanner, ScanError, Scanner};
+use std::alloc::Global;
+use svcb_rdata::AllValues;
+use svcb_scan::scan_param;
+use wire_base::{NoMemory, Octets};
+
+/// The octets of the token of a line that is an entry with exactly one.
+fn lone_token(alloc: Global, line: &[u8]) -> Result<Octets, ScanError>
+    ensures { ReadsAs (λ octets. octets) result (lone_token line.now) }
+{
+    let mut scanner = EntryScanner::new(Entry::from_text(line)?);
+    let octets = scanner.scan_octets(alloc)?;
+    scanner.check_end()?;
+    Ok(octets)
+}
+
+/// The value that the token of a line spells.
+fn token_value(alloc: Global, line: &[u8]) -> Result<AllValues, ScanError>
+    ensures { ReadsAs value_of result (token_push line.now) }
+{
+    let octets = lone_token(alloc, line)?;
+    scan_param(alloc, octets.as_slice())
+}
+
+/// Reads the text of a parameter, as `port=53`, in an entry of one token. Refused for want of memory alone.
+pub fn token_param(alloc: Global, line: &[u8]) -> Result<Option<AllValues>, NoMemory>
+    ensures { IfOk result (λ push. option_map value_of push ≡ token_push line.now) }
+{
+    match token_value(alloc, line) {
+        Ok(value) => Ok(Some(value)),
+        Err(ScanError::NoMemory) => Err(NoMemory),
+        Err(_) => Ok(None),
+    }
+}
