@@ -1,7 +1,7 @@
 //! The HTTPS record in the answer to a query (RFC 1035, section 4.1).
 
-use svcb_rdata::{HttpsVariant, SvcbRef};
-use wire_base::{ParseError, ParsedName, Parser, Rtype};
+use hollywhist::base::{ParseError, ParsedName, Parser, Rtype};
+use hollywhist::rdata::svcb::{HttpsVariant, SvcbRef};
 
 /// A record of an answer: its type, and its data, whose names may point back into the message.
 #[derive(Drop)]

@@ -5,10 +5,10 @@ ghost use Rattle.svcb_spec.specs.Values as values;
 ghost use Rattle.svcb_params.specs.Items.{typed_at};
 
 use crate::weight::Weight;
+use hollywhist::base::Ipv4Addr;
+use hollywhist::rdata::svcb::value::Port;
+use hollywhist::rdata::svcb::{HttpsVariant, SvcbRef};
 use std::alloc::{AllocError, Global};
-use svcb_rdata::{HttpsVariant, SvcbRef};
-use svcb_value::Port;
-use wire_base::Ipv4Addr;
 
 /// What a client takes from a record in service mode.
 #[derive(Debug, Drop)]

@@ -6,8 +6,10 @@
 ghost use Rattle.std.specs.Prelude.{◌≡◌, ℕ, ◌==◌, [], ◌∷◌};
 ghost use Rattle.service_discovery.specs.Weights.{weight_in};
 
-use registry::{ComposeSvcParamValue, ParseSvcParamValue, SvcParamKey, SvcParamValue};
-use wire_base::{NoMemory, ParseError, Parser};
+use hollywhist::base::{NoMemory, ParseError, Parser};
+use hollywhist::rdata::svcb::{
+    ComposeSvcParamValue, ParseSvcParamValue, SvcParamKey, SvcParamValue,
+};
 
 /// The weight of an endpoint among those of one priority: one octet.
 #[derive(Clone, Copy, Debug, PartialEq, Eq)]
