@@ -8,6 +8,8 @@ mod hostile;
 #[cfg(test)]
 mod orders;
 #[cfg(test)]
+mod raw_texts;
+#[cfg(test)]
 mod rebuilding;
 #[cfg(test)]
 mod records;

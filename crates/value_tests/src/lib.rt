@@ -6,6 +6,8 @@ mod all_values;
 #[cfg(test)]
 mod lists;
 #[cfg(test)]
+mod long_values;
+#[cfg(test)]
 mod scans;
 #[cfg(test)]
 mod texts;
