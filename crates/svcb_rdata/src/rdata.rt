@@ -196,7 +196,7 @@ impl<V: SvcVariant> ParseRecordData for SvcbRdata<V> {
 
     ghost takes = { λ rtype. rtype == V.RTYPE };
 
-    ghost reads = { data_read };
+    ghost reads = { λ _. data_read };
 
     fn parse_rdata(
         alloc: Global,
