@@ -290,7 +290,7 @@ impl<F: AssociationFields> ParseRecordData for FieldsData<F> {
 
     ghost takes = { λ rtype. rtype == F.definition.rtype };
 
-    ghost reads = { data_read F.definition };
+    ghost reads = { λ _. data_read F.definition };
 
     fn parse_rdata(
         alloc: Global,

@@ -228,7 +228,7 @@ impl ParseRecordData for Ipseckey {
 
     ghost takes = { λ rtype. rtype == 45 };
 
-    ghost reads = { ipseckey_read };
+    ghost reads = { λ _. ipseckey_read };
 
     fn parse_rdata(
         alloc: Global,

@@ -104,7 +104,7 @@ impl ParseRecordData for A {
 
     ghost takes = { λ rtype. rtype == 1 };
 
-    ghost reads = { address_read 4 };
+    ghost reads = { λ _. address_read 4 };
 
     fn parse_rdata(
         _alloc: Global,

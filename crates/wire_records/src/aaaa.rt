@@ -104,7 +104,7 @@ impl ParseRecordData for Aaaa {
 
     ghost takes = { λ rtype. rtype == 28 };
 
-    ghost reads = { address_read 16 };
+    ghost reads = { λ _. address_read 16 };
 
     fn parse_rdata(
         _alloc: Global,
