@@ -1,4 +1,4 @@
--- How long the texts of addresses are.
+-- How long the texts of addresses are. Offered to the crates above: `ipv4-length` and `ipv6-length`.
 use Rattle.std.proofs.Common.{◌≡◌, ℕ, zero, suc, ◌+◌, ◌*◌, ◌/◌, ◌%◌, ◌<◌, ◌≤◌, true, false, cond, List, [], ◌∷◌, ◌++◌, length, take, drop, codes, arith, length-append, length-drop, length-take}
 use Rattle.std.specs.Prelude.{slice_index, bytes_eq, nat_lt}
 use Rattle.std.specs.Char.{digit_char}

@@ -1,4 +1,4 @@
--- How long the texts of parameters and of data are.
+-- How long the texts of parameters and of data are. Offered to the crates above: `target-length`.
 use Rattle.std.proofs.Common.{ℕ, ◌+◌, ◌*◌, ◌≤◌, List, [], ◌∷◌, ◌++◌, map, length, sym, subst, arith, length-append}
 use Rattle.std.specs.Fmt.{decimal}
 use Rattle.std.specs.List.{flat_map}
@@ -29,7 +29,7 @@ labels-length (label ∷ labels) =
       length-append (printed_label label ++ 46 ∷ []) (flat_map (λ l. printed_label l ++ 46 ∷ []) labels),
     )
 
-target-length : (labels : List (List ℕ)) → length (printed_name_with_dot labels) ≤ 4 * length (name_wire labels)
+pub target-length : (labels : List (List ℕ)) → length (printed_name_with_dot labels) ≤ 4 * length (name_wire labels)
 target-length [] = omega arith
 target-length (label ∷ labels) = let all = labels-length (label ∷ labels) in omega arith
 

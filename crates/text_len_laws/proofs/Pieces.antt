@@ -1,4 +1,5 @@
--- How long the pieces of a text are: octets, numbers, keys, base64, and items between separators.
+-- How long the pieces of a text are: octets, numbers, keys, base64, and items between separators. Offered to the crates
+-- above: `number-length`, `octet-length` and `base64-length`.
 use Rattle.std.proofs.Common.{◌≡◌, ℕ, ◌+◌, ◌*◌, ◌<◌, ◌≤◌, Bool, true, false, cond, List, [], ◌∷◌, ◌++◌, length, codes, Some, refl, arith, length-append}
 use Rattle.std.proofs.lemmas.Bool.{and_parts}
 use Rattle.std.proofs.lemmas.Bool.Decides.{nat_tests}
