@@ -63,8 +63,8 @@ pub trait ComposeRecordData: RecordData + CanonicalOrd {
 /// Record data that is read from a message.
 ///
 /// A type says by `takes` which type numbers it takes, by `reads` what the octets from a place up to the end of the data
-/// are and where they end, or which fault they have, and by `seen` how contracts see data that was read. It owes that
-/// `parse_rdata` answers by these, and where the parser then stands.
+/// are under such a number and where they end, or which fault they have, and by `seen` how contracts see data that was
+/// read. It owes that `parse_rdata` answers by these, and where the parser then stands.
 pub trait ParseRecordData: RecordData + Sized + Drop {
     /// What contracts see of record data.
     ghost Seen: { Type 0 };
@@ -75,8 +75,9 @@ pub trait ParseRecordData: RecordData + Sized + Drop {
     /// Whether the type takes a type number.
     ghost takes: { ℕ → Bool };
 
-    /// What the octets from the parser's place on are, and the place behind them; or their first fault.
-    ghost reads: { Input → Result (DataRead Seen) Fault };
+    /// What the octets from the parser's place on are under a type number that the type takes, and the place behind them;
+    /// or their first fault.
+    ghost reads: { ℕ → Input → Result (DataRead Seen) Fault };
 
     /// The record data at the parser's place, which then goes behind it. None exactly where the type doesn't take the
     /// type number; then nothing is read.
@@ -88,9 +89,10 @@ pub trait ParseRecordData: RecordData + Sized + Drop {
         rtype: Rtype,
         parser: &mut Parser<'_>,
     ) -> Result<Option<Self>, ParseError>
-        ensures answer { DataAnswers seen result (takes rtype) (reads parser.old) }
+        ensures answer { DataAnswers seen result (takes rtype)
+            (reads rtype parser.old) }
         ensures ok { OnOk result (parser.new ≡ record parser.old
-            { pos = place_behind parser.old.pos (takes rtype) (reads parser.old) }) }
+            { pos = place_behind parser.old.pos (takes rtype) (reads rtype parser.old) }) }
         ensures err { OnErr result (parser.new ≡ parser.old) };
 }
 

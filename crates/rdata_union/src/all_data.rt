@@ -1,0 +1,155 @@
+//! Data of records of any type.
+
+ghost use Rattle.std.specs.Prelude.{◌≡◌, ◌↔◌, true, Err, IfOk, OnOk, OnErr, IsErrOf};
+ghost use Rattle.name_spec.specs.Octets.{Short, Form};
+ghost use Rattle.wire_base.specs.Faults.{GivesCopy};
+ghost use Rattle.wire_base.specs.RecordReading.{place_behind};
+ghost use Rattle.wire_base.specs.declared.errors.ParseError.TheVariants as errors;
+ghost use Rattle.union_spec.specs.Reading.{union_read};
+ghost use Rattle.rdata_union.specs.Views.{data_of_all, data_of_zone, data_seen, value_read};
+
+use crate::data_ref::RecordDataRef;
+use crate::zone_data::ZoneRecordData;
+use digest_rdata::{Cds, Sshfp, Tlsa, Zonemd};
+use key_rdata::{Cdnskey, Ipseckey, Openpgpkey};
+use std::alloc::Global;
+use svcb_rdata::{Https, Svcb};
+use wire_base::{NoMemory, ParseError, Parser, Rtype};
+use wire_records::{A, Aaaa, UnknownRecordData};
+
+/// The data of a record of any type: by its fields where this crate has a type for it, else as octets under the
+/// number of its type. Data whose type has fields may be held as octets too.
+///
+/// Data is compared by the number of its type, then data by its fields before octets, then as its own type compares
+/// it.
+#[derive(Debug, Drop)]
+pub enum AllRecordData {
+    /// An IPv4 address.
+    A(A),
+    /// An IPv6 address.
+    Aaaa(Aaaa),
+    /// The fingerprint of a key of a host.
+    Sshfp(Sshfp),
+    /// A key for IPsec.
+    Ipseckey(Ipseckey),
+    /// A certificate of a TLS service.
+    Tlsa(Tlsa),
+    /// A digest of a key for the parent zone.
+    Cds(Cds),
+    /// A key for the parent zone.
+    Cdnskey(Cdnskey),
+    /// An OpenPGP key.
+    Openpgpkey(Openpgpkey),
+    /// A digest of a zone.
+    Zonemd(Zonemd),
+    /// A service and its parameters.
+    Svcb(Svcb),
+    /// An HTTPS service and its parameters.
+    Https(Https),
+    /// Octets under any type number.
+    Unknown(UnknownRecordData),
+}
+
+impl AllRecordData {
+    /// Reads the data of a record with the number of its type: that of a type with fields as these, any other as
+    /// octets.
+    ///
+    /// `ShortInput`, `Form`: the first fault of the data, as its type's own `parse` tells it. `NoMemory`: the data
+    /// has no fault, and the memory for the copy isn't there. The parser then stays.
+    #[tactic(auto, using(crate::proofs::ReadingAnswers::short_given, crate::proofs::ReadingAnswers::form_given))]
+    pub fn parse_any_rdata(
+        alloc: Global,
+        rtype: Rtype,
+        parser: &mut Parser<'_>,
+    ) -> Result<AllRecordData, ParseError>
+        ensures answer { GivesCopy data_of_all result
+            (value_read (union_read rtype parser.old)) }
+        ensures ok { OnOk result (parser.new ≡ record parser.old
+            { pos = place_behind parser.old.pos true (union_read rtype parser.old) }) }
+        ensures err { OnErr result (parser.new ≡ parser.old) }
+
+        // Each fault of the data by itself.
+        ensures short_input { IsErrOf result errors.ShortInput
+            ↔ (union_read rtype parser.old ≡ Err Short) }
+        ensures form { IsErrOf result errors.Form ↔ (union_read rtype parser.old ≡ Err Form) }
+    {
+        AllRecordData::read(alloc, rtype, parser)
+    }
+
+    /// The data that its type reads.
+    fn read(
+        alloc: Global,
+        rtype: Rtype,
+        parser: &mut Parser<'_>,
+    ) -> Result<AllRecordData, ParseError>
+        ensures answer { GivesCopy data_of_all result
+            (value_read (union_read rtype parser.old)) }
+        ensures ok { OnOk result (parser.new ≡ record parser.old
+            { pos = place_behind parser.old.pos true (union_read rtype parser.old) }) }
+        ensures err { OnErr result (parser.new ≡ parser.old) }
+    {
+        match rtype {
+            Rtype::A => Ok(AllRecordData::A(A::parse(parser)?)),
+            Rtype::AAAA => Ok(AllRecordData::Aaaa(Aaaa::parse(parser)?)),
+            Rtype::SSHFP => Ok(AllRecordData::Sshfp(Sshfp::parse(alloc, parser)?)),
+            Rtype::IPSECKEY => Ok(AllRecordData::Ipseckey(Ipseckey::parse(alloc, parser)?)),
+            Rtype::TLSA => Ok(AllRecordData::Tlsa(Tlsa::parse(alloc, parser)?)),
+            Rtype::CDS => Ok(AllRecordData::Cds(Cds::parse(alloc, parser)?)),
+            Rtype::CDNSKEY => Ok(AllRecordData::Cdnskey(Cdnskey::parse(alloc, parser)?)),
+            Rtype::OPENPGPKEY => Ok(AllRecordData::Openpgpkey(Openpgpkey::parse(alloc, parser)?)),
+            Rtype::ZONEMD => Ok(AllRecordData::Zonemd(Zonemd::parse(alloc, parser)?)),
+            Rtype::SVCB => Ok(AllRecordData::Svcb(Svcb::parse(alloc, parser)?)),
+            Rtype::HTTPS => Ok(AllRecordData::Https(Https::parse(alloc, parser)?)),
+            _ => Ok(AllRecordData::Unknown(UnknownRecordData::parse(alloc, rtype, parser)?)),
+        }
+    }
+
+    /// The same data of a record in a zone. No memory is taken.
+    pub fn into_zone_data(self) -> ZoneRecordData
+        ensures { data_of_zone result ≡ data_of_all self }
+    {
+        match self {
+            AllRecordData::A(found) => ZoneRecordData::A(found),
+            AllRecordData::Aaaa(found) => ZoneRecordData::Aaaa(found),
+            AllRecordData::Sshfp(found) => ZoneRecordData::Sshfp(found),
+            AllRecordData::Ipseckey(found) => ZoneRecordData::Ipseckey(found),
+            AllRecordData::Tlsa(found) => ZoneRecordData::Tlsa(found),
+            AllRecordData::Cds(found) => ZoneRecordData::Cds(found),
+            AllRecordData::Cdnskey(found) => ZoneRecordData::Cdnskey(found),
+            AllRecordData::Openpgpkey(found) => ZoneRecordData::Openpgpkey(found),
+            AllRecordData::Zonemd(found) => ZoneRecordData::Zonemd(found),
+            AllRecordData::Svcb(found) => ZoneRecordData::Svcb(found),
+            AllRecordData::Https(found) => ZoneRecordData::Https(found),
+            AllRecordData::Unknown(found) => ZoneRecordData::Unknown(found),
+        }
+    }
+
+    /// A copy.
+    ///
+    /// `NoMemory`: the memory for it isn't there.
+    pub fn try_clone(&self, alloc: Global) -> Result<AllRecordData, NoMemory>
+        ensures { IfOk result (λ copy. data_of_all copy ≡ data_of_all self.now) }
+    {
+        self.for_ref().to_owned_data(alloc)
+    }
+
+    /// The same data, lent. No memory is taken.
+    pub(crate) fn for_ref(&self) -> RecordDataRef<'_>
+        ensures { data_seen result ≡ data_of_all self.now }
+    {
+        match self {
+            AllRecordData::A(found) => RecordDataRef::A(found),
+            AllRecordData::Aaaa(found) => RecordDataRef::Aaaa(found),
+            AllRecordData::Sshfp(found) => RecordDataRef::Sshfp(found),
+            AllRecordData::Ipseckey(found) => RecordDataRef::Ipseckey(found),
+            AllRecordData::Tlsa(found) => RecordDataRef::Tlsa(found),
+            AllRecordData::Cds(found) => RecordDataRef::Cds(found),
+            AllRecordData::Cdnskey(found) => RecordDataRef::Cdnskey(found),
+            AllRecordData::Openpgpkey(found) => RecordDataRef::Openpgpkey(found),
+            AllRecordData::Zonemd(found) => RecordDataRef::Zonemd(found),
+            AllRecordData::Svcb(found) => RecordDataRef::Svcb(found),
+            AllRecordData::Https(found) => RecordDataRef::Https(found),
+            AllRecordData::Unknown(found) => RecordDataRef::Unknown(found),
+        }
+    }
+}

@@ -1,0 +1,156 @@
+//! Data of the records of a zone.
+
+ghost use Rattle.std.specs.Prelude.{◌≡◌, IfOk};
+ghost use Rattle.text_spec.specs.Scanning.{Scans, ScansPart};
+ghost use Rattle.union_spec.specs.Texts.{scan_fields, scan_any, union_scan};
+ghost use Rattle.rdata_union.specs.Views.{data_of_zone, data_seen};
+
+use crate::data_ref::RecordDataRef;
+use digest_rdata::{Cds, Sshfp, Tlsa, Zonemd};
+use dns_text::{Scanner, scan_a, scan_aaaa, scan_unknown};
+use key_rdata::{Cdnskey, Ipseckey, Openpgpkey};
+use std::alloc::Global;
+use svcb_rdata::{Https, Svcb};
+use text_spec::ScanError;
+use wire_base::{NoMemory, Rtype};
+use wire_records::{A, Aaaa, UnknownRecordData};
+
+/// The data of a record in a zone: by its fields where this crate has a type for it, else as octets under the
+/// number of its type. Data whose type has fields may be held as octets too.
+///
+/// Data is compared by the number of its type, then data by its fields before octets, then as its own type compares
+/// it.
+#[derive(Debug, Drop)]
+pub enum ZoneRecordData {
+    /// An IPv4 address.
+    A(A),
+    /// An IPv6 address.
+    Aaaa(Aaaa),
+    /// The fingerprint of a key of a host.
+    Sshfp(Sshfp),
+    /// A key for IPsec.
+    Ipseckey(Ipseckey),
+    /// A certificate of a TLS service.
+    Tlsa(Tlsa),
+    /// A digest of a key for the parent zone.
+    Cds(Cds),
+    /// A key for the parent zone.
+    Cdnskey(Cdnskey),
+    /// An OpenPGP key.
+    Openpgpkey(Openpgpkey),
+    /// A digest of a zone.
+    Zonemd(Zonemd),
+    /// A service and its parameters.
+    Svcb(Svcb),
+    /// An HTTPS service and its parameters.
+    Https(Https),
+    /// Octets under any type number.
+    Unknown(UnknownRecordData),
+}
+
+impl ZoneRecordData {
+    /// Scans the data that all tokens left spell under the number of its type: behind the marker of data of any
+    /// type, octets (RFC 3597, section 5), whatever the number; else the fields of the type.
+    ///
+    /// The faults behind the marker are those of [`scan_unknown`], the others those of the type's own `scan`, which
+    /// also name where the scanner then stands. `UnknownType`: there is no marker, and the type has no fields here;
+    /// the scanner then stays. `TrailingTokens`: a token is left behind the data; the scanner then stands before
+    /// it. `NoMemory`: the memory for the data isn't there; the scanner then stays.
+    pub fn scan<S: Scanner>(
+        alloc: Global,
+        rtype: Rtype,
+        scanner: &mut S,
+    ) -> Result<ZoneRecordData, ScanError>
+        ensures { Scans data_of_zone (union_scan rtype)
+            (S.scan scanner.old) (S.scan scanner.new) result }
+    {
+        let place = scanner.taken();
+        let outcome = scan_whole(alloc, rtype, scanner);
+        scanner.stay_without_memory(place, outcome)
+    }
+
+    /// A copy.
+    ///
+    /// `NoMemory`: the memory for it isn't there.
+    pub fn try_clone(&self, alloc: Global) -> Result<ZoneRecordData, NoMemory>
+        ensures { IfOk result (λ copy. data_of_zone copy ≡ data_of_zone self.now) }
+    {
+        Ok(self.for_ref().to_owned_data(alloc)?.into_zone_data())
+    }
+
+    /// The same data, lent. No memory is taken.
+    pub(crate) fn for_ref(&self) -> RecordDataRef<'_>
+        ensures { data_seen result ≡ data_of_zone self.now }
+    {
+        match self {
+            ZoneRecordData::A(found) => RecordDataRef::A(found),
+            ZoneRecordData::Aaaa(found) => RecordDataRef::Aaaa(found),
+            ZoneRecordData::Sshfp(found) => RecordDataRef::Sshfp(found),
+            ZoneRecordData::Ipseckey(found) => RecordDataRef::Ipseckey(found),
+            ZoneRecordData::Tlsa(found) => RecordDataRef::Tlsa(found),
+            ZoneRecordData::Cds(found) => RecordDataRef::Cds(found),
+            ZoneRecordData::Cdnskey(found) => RecordDataRef::Cdnskey(found),
+            ZoneRecordData::Openpgpkey(found) => RecordDataRef::Openpgpkey(found),
+            ZoneRecordData::Zonemd(found) => RecordDataRef::Zonemd(found),
+            ZoneRecordData::Svcb(found) => RecordDataRef::Svcb(found),
+            ZoneRecordData::Https(found) => RecordDataRef::Https(found),
+            ZoneRecordData::Unknown(found) => RecordDataRef::Unknown(found),
+        }
+    }
+}
+
+/// The data, behind which no token is left. Where memory is wanting, tokens may be taken.
+fn scan_whole<S: Scanner>(
+    alloc: Global,
+    rtype: Rtype,
+    scanner: &mut S,
+) -> Result<ZoneRecordData, ScanError>
+    ensures { ScansPart data_of_zone (union_scan rtype)
+        (S.scan scanner.old) (S.scan scanner.new) result }
+{
+    let found = scan_any(alloc, rtype, scanner)?;
+    scanner.check_end()?;
+    Ok(found)
+}
+
+/// Octets behind the marker, else the fields. Where memory is wanting, tokens may be taken.
+fn scan_any<S: Scanner>(
+    alloc: Global,
+    rtype: Rtype,
+    scanner: &mut S,
+) -> Result<ZoneRecordData, ScanError>
+    ensures { ScansPart data_of_zone (scan_any rtype)
+        (S.scan scanner.old) (S.scan scanner.new) result }
+{
+    if scanner.scan_opt_unknown_marker() {
+        return Ok(ZoneRecordData::Unknown(scan_unknown(alloc, rtype, scanner)?));
+    }
+    scan_fields(alloc, rtype, scanner)
+}
+
+/// The fields of the type.
+///
+/// `UnknownType`: the type has no fields here. The scanner then stays.
+fn scan_fields<S: Scanner>(
+    alloc: Global,
+    rtype: Rtype,
+    scanner: &mut S,
+) -> Result<ZoneRecordData, ScanError>
+    ensures { Scans data_of_zone (scan_fields rtype)
+        (S.scan scanner.old) (S.scan scanner.new) result }
+{
+    match rtype {
+        Rtype::A => Ok(ZoneRecordData::A(scan_a(alloc, scanner)?)),
+        Rtype::AAAA => Ok(ZoneRecordData::Aaaa(scan_aaaa(alloc, scanner)?)),
+        Rtype::SSHFP => Ok(ZoneRecordData::Sshfp(Sshfp::scan(alloc, scanner)?)),
+        Rtype::IPSECKEY => Ok(ZoneRecordData::Ipseckey(Ipseckey::scan(alloc, scanner)?)),
+        Rtype::TLSA => Ok(ZoneRecordData::Tlsa(Tlsa::scan(alloc, scanner)?)),
+        Rtype::CDS => Ok(ZoneRecordData::Cds(Cds::scan(alloc, scanner)?)),
+        Rtype::CDNSKEY => Ok(ZoneRecordData::Cdnskey(Cdnskey::scan(alloc, scanner)?)),
+        Rtype::OPENPGPKEY => Ok(ZoneRecordData::Openpgpkey(Openpgpkey::scan(alloc, scanner)?)),
+        Rtype::ZONEMD => Ok(ZoneRecordData::Zonemd(Zonemd::scan(alloc, scanner)?)),
+        Rtype::SVCB => Ok(ZoneRecordData::Svcb(Svcb::scan(alloc, scanner)?)),
+        Rtype::HTTPS => Ok(ZoneRecordData::Https(Https::scan(alloc, scanner)?)),
+        _ => Err(ScanError::UnknownType),
+    }
+}

@@ -1,0 +1,4 @@
+pub mod RecordData
+pub mod Reading
+pub mod Texts
+pub mod DocumentLaws
