@@ -1,11 +1,12 @@
--- Facts on texts with exactly one token.
-use Rattle.std.proofs.Common.{◌≡◌, ℕ, ◌<◌, List, [], ◌∷◌, length, Option, Some, None, Result, Ok, Err, refl, ap, subst, ◌∙◌, arith}
+-- Facts on texts with exactly one token, and on what a text is scanned as.
+use Rattle.std.proofs.Common.{◌≡◌, ℕ, ◌<◌, List, [], ◌∷◌, length, Option, Some, None, Result, Ok, Err, refl, sym, ap, subst, ◌∙◌, arith}
 use Rattle.text_spec.specs.declared.errors.ScanError.{ScanError}
 use Rattle.text_spec.specs.declared.errors.ScanError.TheVariants.{NoMemory}
 use Rattle.text_spec.specs.declared.lexeme.Symbol.{Symbol}
-use Rattle.text_spec.specs.Scanning.{Scan, Scans, one, any_octets, octets_of}
+use Rattle.text_spec.specs.Scanning.{Scan, Scans, Scanning, Answers, one, any_octets, octets_of}
 use Rattle.text_spec.specs.Tokens.{text_fault, tokens_in}
 use Rattle.svcbedit.specs.Places.{◌>>=◌}
+use Rattle.svcbedit.specs.Scan.{entry_scanned}
 use Rattle.svcbedit.specs.TokenPushes.{lone, lone_token, ReadsAs}
 
 -- a refusal is right where there is nothing to read
@@ -72,3 +73,12 @@ module _ (line : List ℕ) (old new : Scan) (sound : text_fault line ≡ None) (
 
   pub lone-none : (fault : ScanError) → Read (Err fault) → ReadsAs (λ (octets : List ℕ). octets) (Err fault) (lone_token line)
   lone-none fault read = rw (lone_token-is line sound) (lone-refused (tokens_in line) new fault (first (Err fault) read))
+
+-- ---- whole entries
+
+-- a call answers what an entry without a fault is scanned as
+pub entry_answers : {X Y : Type 0} (view : X → Y) (scanning : Scanning Y) (text : List ℕ) (result : Result X ScanError) → text_fault text ≡ None
+    → Answers view result (scanning (tokens_in text) 0).outcome → Answers view result (entry_scanned scanning text)
+entry_answers {Y = Y} view scanning text result sound =
+    subst (Answers view result)
+    (sym (ap (λ (fault : Option ScanError). elim fault [ None ↦ (scanning (tokens_in text) 0).outcome | Some f ↦ Err f ]) sound))

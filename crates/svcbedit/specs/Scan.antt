@@ -1,15 +1,13 @@
 -- What answers `scan`.
-use Rattle.std.specs.Prelude.{ℕ, Some, None, Result, Ok, Err, List, length, nat_lt, if◌then◌else◌, codes}
+use Rattle.std.specs.Prelude.{ℕ, Some, None, Result, Ok, Err, List, codes}
 use Rattle.hex.specs.Hex.{encode_lower}
-use Rattle.svcb_spec.specs.Records.{Record, rdata}
 use Rattle.text_spec.specs.declared.errors.ScanError.{ScanError}
 use Rattle.text_spec.specs.declared.errors.ScanError.TheVariants as errors
-use Rattle.text_spec.specs.Scanning.{Scanned, Scanning}
+use Rattle.text_spec.specs.Scanning.{Scanning}
 use Rattle.text_spec.specs.Tokens.{text_fault, tokens_in}
-use Rattle.rdata_text_spec.specs.DataTexts.{svcb_data}
+use Rattle.union_spec.specs.RecordData.{RecordData, union_wire}
+use Rattle.union_spec.specs.Texts.{union_scan}
 use Rattle.svcbedit.specs.Report.{Answer, done, not_done}
-use Rattle.svcbedit.specs.declared.words.RecordType.{RecordType}
-use Rattle.svcbedit.specs.declared.words.RecordType.TheVariants.{Svcb, Https}
 
 -- what a report says of a fault; want of memory is none, and nothing is written for it
 abbrev pub scan_fault_text : ScanError → List ℕ
@@ -46,26 +44,18 @@ scan_fault_text errors.UnknownType = codes "unknown type"
 scan_fault_text errors.TrailingTokens = codes "trailing tokens"
 scan_fault_text errors.NoMemory = codes "want of memory"
 
--- what was scanned of so many tokens, where none of them is left behind it
-abbrev pub whole : {V : Type 0} → ℕ → Scanned V → Result V ScanError
-whole count scanned = elim scanned.outcome [
-  | Err fault ↦ Err fault
-  | Ok x ↦ if nat_lt scanned.place count then Err errors.TrailingTokens else Ok x
-]
-
--- what a text is scanned as: its first lexical fault, and else what all its tokens are
+-- what a text is scanned as: its first lexical fault, and else what its tokens are
 abbrev pub entry_scanned : {V : Type 0} → Scanning V → List ℕ → Result V ScanError
 entry_scanned scanning text = elim (text_fault text) [
   | Some fault ↦ Err fault
-  | None ↦ whole (length (tokens_in text)) (scanning (tokens_in text) 0)
+  | None ↦ (scanning (tokens_in text) 0).outcome
 ]
 
--- to a text that is scanned as record data: the octets of it
-abbrev pub record_scanned : Result Record ScanError → Answer
-record_scanned (Err fault) = not_done (scan_fault_text fault)
-record_scanned (Ok found) = done (encode_lower (rdata found.priority found.labels found.pairs))
+-- to a text that is scanned as data: the octets of it
+abbrev pub data_scanned : Result RecordData ScanError → Answer
+data_scanned (Err fault) = not_done (scan_fault_text fault)
+data_scanned (Ok found) = done (encode_lower (union_wire found))
 
--- the answer of `scan` to an input that isn't too long
-abbrev pub scanned : RecordType → List ℕ → Answer
-scanned Svcb text = record_scanned (entry_scanned svcb_data text)
-scanned Https text = record_scanned (entry_scanned svcb_data text)
+-- the answer of `scan`, for a type number, to an input that isn't too long
+abbrev pub scanned : ℕ → List ℕ → Answer
+scanned rtype text = data_scanned (entry_scanned (union_scan rtype) text)

@@ -1,8 +1,11 @@
 -- What answers `show`.
-use Rattle.std.specs.Prelude.{ℕ, Option, Some, None, Result, Ok, Err, List, ◌∷◌, length, slice_get, option_and_then}
-use Rattle.name_spec.specs.Octets.{Fault}
-use Rattle.svcb_spec.specs.Records.{Record, read}
-use Rattle.rdata_text_spec.specs.DataTexts.{data_printed}
+use Rattle.std.specs.Prelude.{ℕ, Option, Some, None, Result, Ok, Err, List, ◌∷◌, length, nat_lt, if◌then◌else◌, slice_get, option_and_then}
+use Rattle.name_spec.specs.Octets.{Fault, Form}
+use Rattle.wire_base.specs.Input.{Input}
+use Rattle.wire_base.specs.RecordReading.{DataRead}
+use Rattle.union_spec.specs.RecordData.{RecordData}
+use Rattle.union_spec.specs.Reading.{union_read}
+use Rattle.union_spec.specs.Texts.{union_printed}
 use Rattle.svcbedit.specs.Faults.{refused, data_fault_text}
 use Rattle.svcbedit.specs.Lines.{lines}
 use Rattle.svcbedit.specs.Pushes.{hexadecimal_octets}
@@ -10,8 +13,6 @@ use Rattle.svcbedit.specs.Report.{Answer, done, not_done}
 use Rattle.svcbedit.specs.Spelling.{needed, unless, ◌>>=◌}
 use Rattle.svcbedit.specs.declared.spelling.InputFault.{InputFault}
 use Rattle.svcbedit.specs.declared.spelling.InputFault.TheVariants.{BadLine}
-use Rattle.svcbedit.specs.declared.words.RecordType.{RecordType}
-use Rattle.svcbedit.specs.declared.words.RecordType.TheVariants.{Svcb, Https}
 
 -- a second line is a fault
 abbrev pub second_fault : List (List ℕ) → Option InputFault
@@ -28,25 +29,29 @@ only_line all = do
 abbrev pub spelled_octets : List ℕ → Result (List ℕ) InputFault
 spelled_octets input = only_line (lines input)
 
--- the data of SVCB and HTTPS that all these octets are, or their first fault
-abbrev pub svcb_record : List ℕ → Result Record Fault
-svcb_record octets = read octets 0 (length octets)
+-- octets as a message of their own
+abbrev pub whole_message : List ℕ → Input
+whole_message octets = record { message = octets; end = length octets; pos = 0 }
 
--- to octets that are read as record data: its text
-abbrev pub record_shown : Result Record Fault → Answer
-record_shown (Ok found) = done (data_printed found)
-record_shown (Err fault) = not_done (data_fault_text fault)
+-- data that reaches to an end; octets that are left behind it are a fault
+abbrev pub wholly_read : {V : Type 0} → ℕ → Result (DataRead V) Fault → Result V Fault
+wholly_read end (Ok found) = if nat_lt found.next end then Err Form else Ok found.value
+wholly_read end (Err fault) = Err fault
 
--- to octets that are to be data of a type
-abbrev pub octets_shown : RecordType → List ℕ → Answer
-octets_shown Svcb octets = record_shown (svcb_record octets)
-octets_shown Https octets = record_shown (svcb_record octets)
+-- the data that all these octets are under a type number, or their first fault
+abbrev pub data_in : ℕ → List ℕ → Result RecordData Fault
+data_in rtype octets = wholly_read (length octets) (union_read rtype (whole_message octets))
+
+-- to octets that are read as data: its text
+abbrev pub data_shown : Result RecordData Fault → Answer
+data_shown (Ok found) = done (union_printed found)
+data_shown (Err fault) = not_done (data_fault_text fault)
 
 -- to what an input spells
-abbrev pub spelled_shown : RecordType → Result (List ℕ) InputFault → Answer
+abbrev pub spelled_shown : ℕ → Result (List ℕ) InputFault → Answer
 spelled_shown rtype (Err fault) = refused fault
-spelled_shown rtype (Ok octets) = octets_shown rtype octets
+spelled_shown rtype (Ok octets) = data_shown (data_in rtype octets)
 
--- the answer of `show` to an input that isn't too long
-abbrev pub shown : RecordType → List ℕ → Answer
+-- the answer of `show`, for a type number, to an input that isn't too long
+abbrev pub shown : ℕ → List ℕ → Answer
 shown rtype input = spelled_shown rtype (spelled_octets input)

@@ -1,5 +1,5 @@
 -- The words of the command line.
-use Rattle.std.specs.Prelude.{ℕ, nat_le, ◌&&◌, Option, Some, None, List, [], ◌∷◌, length, if◌then◌else◌, codes, map, string_bytes}
+use Rattle.std.specs.Prelude.{ℕ, nat_le, ◌&&◌, Option, Some, None, List, [], ◌∷◌, length, take, drop, if◌then◌else◌, codes, map, string_bytes}
 use Rattle.std.specs.Option.{option_map}
 use Rattle.std.specs.Str.{bytes_eq}
 use Rattle.std.specs.declared.string.String.{String}
@@ -7,31 +7,49 @@ use Rattle.svcbedit.specs.Numbers.{decimal_number}
 use Rattle.svcbedit.specs.Places.{◌>>=◌}
 use Rattle.svcbedit.specs.declared.words.Command.{Command}
 use Rattle.svcbedit.specs.declared.words.Command.TheVariants.{Edit, Show, Scan, Gen}
-use Rattle.svcbedit.specs.declared.words.RecordType.{RecordType}
-use Rattle.svcbedit.specs.declared.words.RecordType.TheVariants.{Svcb, Https}
 
 -- a command, where no word follows its name
 abbrev pub alone : Command → List (List ℕ) → Option Command
 alone command [] = Some command
 alone command (word ∷ more) = None
 
--- the record type that a word names
-abbrev pub type_of : List ℕ → Option RecordType
-type_of word =
-    if bytes_eq word (codes "svcb") then Some Svcb
-    else if bytes_eq word (codes "https") then Some Https
+-- one to so many digits of a number within bounds
+abbrev pub number_within : ℕ → ℕ → ℕ → List ℕ → Option ℕ
+number_within digits least greatest word =
+    if nat_le (length word) digits
+    then (decimal_number word >>= λ n. if nat_le least n && nat_le n greatest then Some n else None)
     else None
 
--- the record type that the only word names
-abbrev pub only_type : List (List ℕ) → Option RecordType
+-- the number of the record type that `type` and one to five digits name
+abbrev pub numbered_type : List ℕ → Option ℕ
+numbered_type word =
+    if bytes_eq (take 4 word) (codes "type") then number_within 5 0 65535 (drop 4 word) else None
+
+-- The number of the record type that a word names: its mnemonic in the registry of resource record types in lower case,
+-- or any number.
+unfoldable pub type_of : List ℕ → Option ℕ
+type_of word =
+    if bytes_eq word (codes "a") then Some 1
+    else if bytes_eq word (codes "aaaa") then Some 28
+    else if bytes_eq word (codes "sshfp") then Some 44
+    else if bytes_eq word (codes "ipseckey") then Some 45
+    else if bytes_eq word (codes "tlsa") then Some 52
+    else if bytes_eq word (codes "cds") then Some 59
+    else if bytes_eq word (codes "cdnskey") then Some 60
+    else if bytes_eq word (codes "openpgpkey") then Some 61
+    else if bytes_eq word (codes "zonemd") then Some 63
+    else if bytes_eq word (codes "svcb") then Some 64
+    else if bytes_eq word (codes "https") then Some 65
+    else numbered_type word
+
+-- the number of the record type that the only word names
+abbrev pub only_type : List (List ℕ) → Option ℕ
 only_type (word ∷ []) = type_of word
 only_type words = None
 
 -- one to four digits of a number from 1 to 8000
 abbrev pub count_of : List ℕ → Option ℕ
-count_of word =
-    if nat_le (length word) 4 then (decimal_number word >>= λ n. if nat_le 1 n && nat_le n 8000 then Some n else None)
-    else None
+count_of word = number_within 4 1 8000 word
 
 -- the count that the only word gives
 abbrev pub only_count : List (List ℕ) → Option ℕ

@@ -12,8 +12,6 @@ use stop::Stop;
 
 mod commands;
 mod edit;
-#[cfg(test)]
-mod gen_tests;
 mod generate;
 mod hexadecimal;
 pub mod laws;
@@ -32,6 +30,8 @@ mod tests;
 #[cfg(test)]
 mod text_tests;
 mod token_pushes;
+#[cfg(test)]
+mod type_tests;
 mod words;
 
 /// The words after the program's name.

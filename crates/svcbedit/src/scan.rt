@@ -1,16 +1,16 @@
 //! What answers `scan`.
 ghost use Rattle.std.specs.Prelude.{◌≡◌, IfOk};
 ghost use Rattle.text_spec.specs.Scanning.{Answers};
-ghost use Rattle.rdata_text_spec.specs.DataTexts.{svcb_data};
+ghost use Rattle.union_spec.specs.Texts.{union_scan};
+ghost use Rattle.rdata_union.specs.Views.{data_of_zone};
 ghost use Rattle.svcbedit.specs.ReportView.{answer_view};
-ghost use Rattle.svcbedit.specs.Scan.{entry_scanned, scan_fault_text, record_scanned, scanned};
+ghost use Rattle.svcbedit.specs.Scan.{entry_scanned, scan_fault_text, scanned};
 
 use crate::report::{Answer, Outcome, octets_answer};
-use crate::words::RecordType;
-use dns_text::{Entry, EntryScanner, ScanError, Scanner};
+use dns_text::{Entry, EntryScanner, ScanError};
+use rdata_union::ZoneRecordData;
 use std::alloc::Global;
-use svcb_rdata::Svcb;
-use wire_base::{ComposeRecordData, NoMemory};
+use wire_base::{ComposeRecordData, NoMemory, Rtype};
 
 /// What a report says of a fault. Want of memory is none, and nothing is written for it.
 fn fault_text(fault: ScanError) -> &'static str
@@ -52,22 +52,19 @@ fn fault_text(fault: ScanError) -> &'static str
     }
 }
 
-/// The data of an SVCB or HTTPS record that a text spells.
-fn scan_svcb(alloc: Global, text: &[u8]) -> Result<Svcb, ScanError>
-    ensures { Answers (λ found. found) result (entry_scanned svcb_data text.now) }
+/// The data of a type that a text spells.
+fn scan_data(alloc: Global, rtype: Rtype, text: &[u8]) -> Result<ZoneRecordData, ScanError>
+    ensures { Answers data_of_zone result (entry_scanned (union_scan rtype) text.now) }
 {
     let mut scanner = EntryScanner::new(Entry::from_text(text)?);
-    let found = Svcb::scan(alloc, &mut scanner)?;
-    scanner.check_end()?;
-    Ok(found)
+    ZoneRecordData::scan(alloc, rtype, &mut scanner)
 }
 
-/// The answer to a text that is to be data of an SVCB or HTTPS record.
-fn svcb_scanned(alloc: Global, text: &[u8]) -> Result<Answer, NoMemory>
-    ensures { IfOk result (λ answer.
-        answer_view answer ≡ record_scanned (entry_scanned svcb_data text.now)) }
+/// The answer of `scan` to an input. Refused for want of memory alone.
+pub fn scan_answer(alloc: Global, rtype: Rtype, input: &[u8]) -> Result<Answer, NoMemory>
+    ensures { IfOk result (λ answer. answer_view answer ≡ scanned rtype input.now) }
 {
-    match scan_svcb(alloc, text) {
+    match scan_data(alloc, rtype, input) {
         Ok(found) => {
             let mut octets = Vec::new(alloc);
             found.compose_rdata(&mut octets)?;
@@ -78,14 +75,5 @@ fn svcb_scanned(alloc: Global, text: &[u8]) -> Result<Answer, NoMemory>
             outcome: Outcome::NotDone,
             report: format!(in alloc; "error: {}\n", fault_text(fault))?,
         }),
-    }
-}
-
-/// The answer of `scan` to an input. Refused for want of memory alone.
-pub fn scan_answer(alloc: Global, rtype: RecordType, input: &[u8]) -> Result<Answer, NoMemory>
-    ensures { IfOk result (λ answer. answer_view answer ≡ scanned rtype input.now) }
-{
-    match rtype {
-        RecordType::Svcb | RecordType::Https => svcb_scanned(alloc, input),
     }
 }

@@ -1,24 +1,29 @@
 //! What answers `show`.
 ghost use Rattle.std.specs.Prelude.{◌≡◌, IfOk};
 ghost use Rattle.svcbedit.specs.ReportView.{answer_view};
-ghost use Rattle.svcbedit.specs.Show.{svcb_record, record_shown, shown};
+ghost use Rattle.svcbedit.specs.Show.{data_in, data_shown, shown};
 
 use crate::report::{Answer, Outcome, refused_answer, text_answer};
 use crate::spelling::{SpellError, read_octets};
-use crate::words::RecordType;
+use rdata_union::AllRecordData;
 use std::alloc::Global;
-use svcb_rdata::Svcb;
-use wire_base::{NoMemory, ParseError, Parser};
+use wire_base::{NoMemory, ParseError, Parser, Rtype};
 
-/// The answer to octets that are to be data of an SVCB or HTTPS record.
-fn svcb_shown(alloc: Global, octets: &[u8]) -> Result<Answer, NoMemory>
-    ensures { IfOk result (λ answer. answer_view answer ≡ record_shown (svcb_record octets.now)) }
+/// The answer to octets that are to be data of a type. Refused for want of memory alone.
+fn octets_shown(alloc: Global, rtype: Rtype, octets: &[u8]) -> Result<Answer, NoMemory>
+    ensures { IfOk result (λ answer. answer_view answer ≡ data_shown (data_in rtype octets.now)) }
 {
-    match Svcb::parse(alloc, &mut Parser::from_ref(octets)) {
-        Ok(found) => Ok(Answer {
-            outcome: Outcome::Done,
-            report: format!(in alloc; "{found}\n")?,
-        }),
+    let mut parser = Parser::from_ref(octets);
+    match AllRecordData::parse_any_rdata(alloc, rtype, &mut parser) {
+        Ok(found) => {
+            if parser.remaining() > 0 {
+                return text_answer(alloc, Outcome::NotDone, "error: form error\n");
+            }
+            Ok(Answer {
+                outcome: Outcome::Done,
+                report: format!(in alloc; "{found}\n")?,
+            })
+        }
         Err(ParseError::ShortInput) => {
             text_answer(alloc, Outcome::NotDone, "error: short input\n")
         }
@@ -28,15 +33,12 @@ fn svcb_shown(alloc: Global, octets: &[u8]) -> Result<Answer, NoMemory>
 }
 
 /// The answer of `show` to an input. Refused for want of memory alone.
-pub fn show_answer(alloc: Global, rtype: RecordType, input: &[u8]) -> Result<Answer, NoMemory>
+pub fn show_answer(alloc: Global, rtype: Rtype, input: &[u8]) -> Result<Answer, NoMemory>
     ensures { IfOk result (λ answer. answer_view answer ≡ shown rtype input.now) }
 {
-    let octets = match read_octets(alloc, input) {
-        Ok(octets) => octets,
-        Err(SpellError::Fault(fault)) => return refused_answer(alloc, fault),
-        Err(SpellError::NoMemory) => return Err(NoMemory),
-    };
-    match rtype {
-        RecordType::Svcb | RecordType::Https => svcb_shown(alloc, octets.as_slice()),
+    match read_octets(alloc, input) {
+        Ok(octets) => octets_shown(alloc, rtype, octets.as_slice()),
+        Err(SpellError::Fault(fault)) => refused_answer(alloc, fault),
+        Err(SpellError::NoMemory) => Err(NoMemory),
     }
 }

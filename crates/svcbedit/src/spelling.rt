@@ -166,8 +166,8 @@ pub fn read_spelling(alloc: Global, input: &[u8]) -> Result<Spelling, SpellError
     })
 }
 
-/// Reads an input of `show`: the octets of its only line. `Fault` is the first fault of form in it, and `NoMemory` want
-/// of memory for the octets.
+/// Reads an input of `show`: the octets of its only line. `Fault` is the first fault of form in it, and `NoMemory` want of
+/// memory for the octets.
 pub fn read_octets(alloc: Global, input: &[u8]) -> Result<Octets, SpellError>
     ensures { SpellsAs (λ octets. octets) result (spelled_octets input.now) }
 {

@@ -62,7 +62,8 @@ const ROWS: [(&str, &str, u8, &str); 31] = [
         "001003666f6f076578616d706c65036f7267000000000400010004000100090268320568332d313900040004c0000201",
     ),
     ("scan svcb", "", 3, "error: end of entry"),
-    ("scan svcb", "\\# 3 000100\n", 3, "error: bad number"),
+    // octets behind the marker of data of any type
+    ("scan svcb", "\\# 3 000100\n", 0, "000100"),
     (
         "scan svcb",
         "1 . port=53 key3=a\n",

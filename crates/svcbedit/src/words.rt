@@ -1,22 +1,11 @@
 //! The words of the command line.
 ghost use Rattle.std.specs.Prelude.{◌≡◌, map, string_bytes};
 ghost use Rattle.svcbedit.specs.Commands.{reads};
-ghost use Rattle.svcbedit.specs.Words.{alone, only_type, type_of, only_count, count_of, command_of};
+ghost use Rattle.svcbedit.specs.Words.{alone, only_type, type_of, numbered_type, number_within};
+ghost use Rattle.svcbedit.specs.Words.{only_count, count_of, command_of};
 
 use crate::numbers::number;
-
-/// The most digits of a count.
-const COUNT_DIGITS: usize = 4;
-
-/// The greatest count.
-const MAX_COUNT: u32 = 8000;
-
-/// A type of records.
-#[derive(Clone, Copy, Debug, PartialEq, Eq)]
-pub enum RecordType {
-    Svcb,
-    Https,
-}
+use wire_base::Rtype;
 
 /// What the program is asked to do.
 #[derive(Clone, Copy, Debug, PartialEq, Eq)]
@@ -24,9 +13,9 @@ pub enum Command {
     /// Adds parameters to record data.
     Edit,
     /// Writes record data as text.
-    Show(RecordType),
+    Show(Rtype),
     /// Reads record data from text.
-    Scan(RecordType),
+    Scan(Rtype),
     /// Makes record data of so many parameters, and rebuilds it.
     Gen(u16),
 }
@@ -51,19 +40,51 @@ fn alone_in(command: Command, more: &[String]) -> Option<Command>
     if more.is_empty() { Some(command) } else { None }
 }
 
+/// The number that a word gives: one to so many digits, of a number within bounds.
+fn number_in(word: &str, digits: usize, least: u16, greatest: u16) -> Option<u16>
+    ensures { result ≡ number_within digits least greatest word.now }
+{
+    if word.len() > digits {
+        return None;
+    }
+    let found = number(word.as_bytes())?;
+    if found < u32::from(least) || found > u32::from(greatest) {
+        return None;
+    }
+    Some(found as u16)
+}
+
+/// The record type that `type` and its number name.
+fn numbered_type_in(word: &str) -> Option<Rtype>
+    ensures { result ≡ numbered_type word.now }
+{
+    let digits = word.strip_prefix("type")?;
+    Some(Rtype::from_int(number_in(digits, 5, 0, u16::MAX)?))
+}
+
 /// The record type that a word names.
-fn type_in(word: &str) -> Option<RecordType>
+#[tactic(auto, unfolding(crate::specs::Words::type_of))]
+fn type_in(word: &str) -> Option<Rtype>
     ensures { result ≡ type_of word.now }
 {
     match word {
-        "svcb" => Some(RecordType::Svcb),
-        "https" => Some(RecordType::Https),
-        _ => None,
+        "a" => Some(Rtype::A),
+        "aaaa" => Some(Rtype::AAAA),
+        "sshfp" => Some(Rtype::SSHFP),
+        "ipseckey" => Some(Rtype::IPSECKEY),
+        "tlsa" => Some(Rtype::TLSA),
+        "cds" => Some(Rtype::CDS),
+        "cdnskey" => Some(Rtype::CDNSKEY),
+        "openpgpkey" => Some(Rtype::OPENPGPKEY),
+        "zonemd" => Some(Rtype::ZONEMD),
+        "svcb" => Some(Rtype::SVCB),
+        "https" => Some(Rtype::HTTPS),
+        _ => numbered_type_in(word),
     }
 }
 
 /// The record type that the only word names.
-fn only_type_in(words: &[String]) -> Option<RecordType>
+fn only_type_in(words: &[String]) -> Option<Rtype>
     ensures { result ≡ only_type (map string_bytes words.now) }
 {
     let (word, more) = words.split_first()?;
@@ -78,14 +99,7 @@ fn only_type_in(words: &[String]) -> Option<RecordType>
 fn count_in(word: &str) -> Option<u16>
     ensures { result ≡ count_of word.now }
 {
-    if word.len() > COUNT_DIGITS {
-        return None;
-    }
-    let count = number(word.as_bytes())?;
-    if count == 0 || count > MAX_COUNT {
-        return None;
-    }
-    Some(count as u16)
+    number_in(word, 4, 1, 8000)
 }
 
 /// The count that the only word gives.
