@@ -5,5 +5,6 @@ pub mod svcb;
 pub use association_rdata::{AssociationFields, FieldsData};
 pub use digest_rdata::{Cds, Sshfp, Tlsa, Zonemd};
 pub use key_rdata::{Cdnskey, Ipseckey, IpseckeyGateway, Openpgpkey};
+pub use rdata_union::{AllRecordData, ZoneRecordData};
 pub use svcb_rdata::{Https, Svcb, SvcbRdata};
 pub use wire_records::{A, Aaaa, UnknownRecordData};
