@@ -48,3 +48,13 @@ fn marked_data_is_octets_under_any_number(rt: HostRuntime) {
     assert!(rt; is_octets(alloc, 999, b"\\# 3 0A0b0c", b"\x0a\x0b\x0c") == Ok(true));
     assert!(rt; is_octets(alloc, 64, b"\\# 3 000100", b"\x00\x01\x00") == Ok(true));
 }
+
+/// The marker is the one escaped `#`, however it is written.
+#[test]
+fn the_marker_is_an_escaped_number_sign(rt: HostRuntime) {
+    let alloc = rt.alloc();
+    assert!(rt; is_octets(alloc, 999, b"\\035 1 0a", b"\x0a") == Ok(true));
+    assert!(rt; is_octets(alloc, 1, b"\"\\#\" 1 0a", b"\x0a") == Ok(true));
+    assert!(rt; fault(alloc, 999, b"\"#\" 1 0a") == Some((ScanError::UnknownType, 0)));
+    assert!(rt; fault(alloc, 999, b"\\## 1 0a") == Some((ScanError::UnknownType, 0)));
+}
