@@ -1,4 +1,4 @@
--- Protocols are read back from their text. Offered to the crates above: `read_item-escaped`, `protocols_of-join` and `alpn_again`.
+-- Protocols are read back from their text.
 use Rattle.std.proofs.Common.{◌≡◌, ℕ, zero, suc, ◌<◌, ◌≤◌, true, false, cond, List, [], ◌∷◌, ◌++◌, map, length, codes, Option, Some, None, Ok, Err, refl, sym, ap, ◌∙◌, arith, append-nil, length-append}
 use Rattle.std.specs.Prelude.{◌==◌, nat_lt}
 use Rattle.std.specs.List.{join_with_byte}
@@ -10,10 +10,11 @@ use Rattle.text_spec.specs.declared.errors.ScanError.TheVariants.{BadListEscape,
 use Rattle.param_text_spec.specs.ListTexts.{◌>>=◌, is_escaped_in_item, escaped_item, ItemRead, onto_item, read_item, some_octets}
 use Rattle.param_text_spec.specs.ValueTexts.{short_item, protocol_item, protocols_step, protocols_within, protocols_of, short_value}
 use Rattle.param_text_spec.specs.PrintedValues.{value_printed}
-use Rattle.param_text_laws.specs.Laws.{IsTextOf}
+use Rattle.param_text_laws.specs.Laws.{IsTextOf, IsProtocol}
 use Rattle.param_text_laws.proofs.BareTexts.{IsBareText, bare-octets}
 use Rattle.param_text_laws.proofs.OpaqueTexts.{short_again}
-use Rattle.param_text_laws.proofs.ListTexts.{items_again, some_text_again, some-join}
+use Rattle.param_text_laws.proofs.PlainLists.{some_text_again, some-join}
+use Rattle.param_text_laws.proofs.ListTexts.{items_again}
 
 -- ---- an escaped item
 
@@ -36,7 +37,7 @@ read_item-escape : (c : ℕ) (text : List ℕ) → is_escaped_in_item c ≡ true
 read_item-escape c text escaped = ap (λ b. cond b (onto_item c (read_item text)) (Err BadListEscape)) escaped
 
 -- an escaped item is read as the item, and what follows it is left
-pub read_item-escaped : (item : List ℕ) (rest : Option (List ℕ)) → read_item (escaped_item item ++ behind_item rest) ≡ Ok (record { item = item; rest = rest })
+read_item-escaped : (item : List ℕ) (rest : Option (List ℕ)) → read_item (escaped_item item ++ behind_item rest) ≡ Ok (record { item = item; rest = rest })
 read_item-escaped [] None = refl
 read_item-escaped [] (Some []) = refl
 read_item-escaped [] (Some (c ∷ rest)) = refl
@@ -48,10 +49,6 @@ read_item-escaped (c ∷ item) rest =
     ] refl
 
 -- ---- protocols
-
--- a protocol's octets: one to 255
-abbrev pub IsProtocol : List ℕ → Type 0
-IsProtocol protocol = (0 < length protocol) × (length protocol < 256)
 
 protocol_item-escaped : (protocol : List ℕ) (rest : Option (List ℕ)) → IsProtocol protocol
     → protocol_item (escaped_item protocol ++ behind_item rest) ≡ Ok (record { item = protocol; rest = rest })
@@ -65,7 +62,7 @@ protocol_item-escaped protocol rest is =
     ∙ ap (λ b. cond b (Err EmptyItem) (Ok read) >>= short_item) full
     ∙ ap (λ b. cond b (Err LongItem) (Ok read)) short
 
-protocols_within-step : (count : ℕ) (text : List ℕ) → protocols_within (suc count) text ≡ (protocol_item text >>= protocols_step (protocols_within count))
+pub protocols_within-step : (count : ℕ) (text : List ℕ) → protocols_within (suc count) text ≡ (protocol_item text >>= protocols_step (protocols_within count))
 unfolding protocols_within
 protocols_within-step count text = refl
 
@@ -103,7 +100,7 @@ octets-escaped (c ∷ item) are =
       | false ↦ (are.0, octets-escaped item are.1)
     ]
 
-some-escaped : (item : List ℕ) → 0 < length item → 0 < length (escaped_item item)
+pub some-escaped : (item : List ℕ) → 0 < length item → 0 < length (escaped_item item)
 some-escaped [] some = absurd (omega arith)
 some-escaped (c ∷ item) some =
     elim (is_escaped_in_item c) as (λ b. 0 < length (cond b (92 ∷ c ∷ []) (c ∷ []) ++ escaped_item item)) [

@@ -1,5 +1,4 @@
--- Texts whose symbols each stand bare, and what such a text spells by its key and what stands behind the `=`. Offered to
--- the crates above: `bare-append`, `bare-plain`, `bare-octets`, `bare_text_of`, `spells-behind` and `spells-key`.
+-- Texts whose symbols each stand bare, and what such a text spells by its key and what stands behind the `=`.
 use Rattle.std.proofs.Common.{◌≡◌, ℕ, suc, ◌<◌, true, false, cond, not, List, [], ◌∷◌, ◌++◌, map, length, drop, Ok, Err, refl, sym, ap, ◌∙◌, subst, arith, add-one, length-append}
 use Rattle.std.specs.Prelude.{◌==◌}
 use Rattle.std.specs.List.{flat_map, list_all}

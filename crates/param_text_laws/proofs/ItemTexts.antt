@@ -1,5 +1,4 @@
 -- Texts of items: octets that stand for themselves, without a comma. Such are the texts of numbers, addresses and keys.
--- Offered to the crates above: `IsItemText`, `item-decimal`, `item-ipv4`, `item-ipv6`, `item-key_name` and `ArePlain-item`.
 use Rattle.std.proofs.Common.{◌≡◌, ℕ, ◌^◌, ◌<◌, ◌≤◌, Bool, true, false, cond, not, ◌&&◌, List, [], ◌∷◌, ◌++◌, length, codes, Some, inl, inr, refl, sym, ap, subst, arith, length-append}
 use Rattle.std.specs.Prelude.{◌==◌, nat_lt, unwrap_or}
 use Rattle.std.specs.Char.{digit_value}

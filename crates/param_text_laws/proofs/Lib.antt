@@ -1,9 +1,15 @@
+pub mod Answers
 pub mod BareTexts
 pub mod OpaqueTexts
 pub mod ItemTexts
+pub mod CommaLists
+pub mod PlainLists
+pub mod NumberLists
 pub mod ListTexts
 pub mod TypedTexts
 pub mod AlpnTexts
+pub mod ProtocolLists
+pub mod ListRows
 pub mod ValuesAgain
 pub mod PairTexts
 pub mod ParamTokens

@@ -1,5 +1,4 @@
--- The text of any octets under a key is read back. Offered to the crates above: `opaque_again`, `short_again` and
--- `with_text_again`.
+-- The text of any octets under a key is read back.
 use Rattle.std.proofs.Common.{◌≡◌, ℕ, ◌<◌, ◌≤◌, true, false, cond, List, [], ◌∷◌, ◌++◌, length, Option, Some, None, Ok, Err, codes, inl, inr, refl, sym, ap, ◌∙◌, subst, arith}
 use Rattle.std.specs.Prelude.{◌==◌, nat_lt, unwrap_or}
 use Rattle.std.specs.List.{list_all}

@@ -1,5 +1,4 @@
--- Pairs of a map are read back from their texts. Offered to the crates above: `pair_value`, `pair_value_again`, `pair_again`
--- and `pair-Contains`.
+-- Pairs of a map are read back from their texts.
 use Rattle.std.proofs.Common.{◌≡◌, ℕ, zero, suc, ◌+◌, ◌<◌, true, false, cond, Contains, List, [], ◌∷◌, length, refl, sym, arith, subst}
 use Rattle.printed_spec.specs.Laws.{AreOctets}
 use Rattle.svcb_spec.specs.Params.{Pair, Pairs, Ascends}
@@ -53,7 +52,7 @@ pair_value_again pairs pair is =
     ] refl
 
 -- each pair of a map is such a pair
-pub pair-Contains : (least : ℕ) (pairs : Pairs) (pair : Pair) → Ascends least pairs → HaveOctets pairs → Contains pairs pair → IsPairOfMap pair
+pair-Contains : (least : ℕ) (pairs : Pairs) (pair : Pair) → Ascends least pairs → HaveOctets pairs → Contains pairs pair → IsPairOfMap pair
 pair-Contains least [] pair ascends octets (k, below, is) = absurd (omega (arith, below))
 pair-Contains least (first ∷ pairs) pair ascends octets (zero, below, is) =
     subst IsPairOfMap is (record { key = ascends.1; few = ascends.2; octets = octets.0 })

@@ -1,5 +1,5 @@
--- The tokens of a map's texts spell that map. Offered to the crates above: `AreSpelled`, `AreNew`, `values_at-spelled`,
--- `one_token`, `params_again`, `has_tokens-spaced`, `tokens_of_texts` and `params_text_again`.
+-- The tokens of a map's texts spell that map. Offered to the crates above: `one_token`, `params_again`,
+-- `has_tokens-spaced` and `tokens_of_texts`.
 use Rattle.std.proofs.Common.{◌≡◌, ℕ, ◌+◌, ◌<◌, ◌≤◌, true, false, cond, ◌&&◌, ◌||◌, List, [], ◌∷◌, ◌++◌, map, length, Result, Ok, Err, refl, sym, ap, ap₂, ◌∙◌, subst, arith, append_assoc, append-nil, add-zero, zero-add}
 use Rattle.std.specs.Prelude.{◌==◌, nat_le}
 use Rattle.std.specs.List.{list_all, join_with_byte}
@@ -42,7 +42,7 @@ after_token before tokens place spelled = elim spelled [
   | Ok value ↦ cond (has_key before (key_of value)) (refused DuplicateKey place) (values_at (before ++ value ∷ []) tokens (place + 1))
 ]
 
-pub values_at-spelled : (before : List Value) (tokens : List (List Symbol)) (values : List Value) (place : ℕ) → AreSpelled tokens values → AreNew before values
+values_at-spelled : (before : List Value) (tokens : List (List Symbol)) (values : List Value) (place : ℕ) → AreSpelled tokens values → AreNew before values
     → values_at before tokens place ≡ done (before ++ values) (place + length tokens)
 values_at-spelled before [] [] place spelled new = ap₂ done (sym (append-nil before)) (sym (add-zero place))
 values_at-spelled before [] (value ∷ values) place spelled new = absurd spelled

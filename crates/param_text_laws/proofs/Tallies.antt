@@ -1,5 +1,4 @@
--- Sums over a list that a permutation keeps, and maps that they fix. Offered to the crates above: `tally` and what keeps it,
--- `AscendsKeys`, `same_maps` and `list_all-IsPermutation`.
+-- Sums over a list that a permutation keeps, and maps that they fix.
 use Rattle.std.proofs.Common.{◌≡◌, ℕ, ◌+◌, ◌<◌, ◌≤◌, Bool, true, false, not, ◌&&◌, ◌||◌, IsPermutation, List, [], ◌∷◌, ◌++◌, sum_by, inl, inr, refl, sym, ap, ap₂, ◌∙◌, subst, arith}
 use Rattle.std.specs.Prelude.{◌==◌, bytes_eq}
 use Rattle.std.specs.List.{list_all, list_any}

@@ -1,4 +1,4 @@
--- Tokens that spell a map spell it in any order. Offered to the crates above: `values_at-done` and `any_order`.
+-- Tokens that spell a map spell it in any order. Offered to the crates above: `any_order`.
 use Rattle.std.proofs.Common.{◌≡◌, ℕ, ◌+◌, ◌<◌, ◌≤◌, Bool, true, false, cond, ◌||◌, IsPermutation, List, [], ◌∷◌, ◌++◌, map, length, Result, Ok, Err, is_ok, refl, sym, ap, ap₂, ◌∙◌, subst, arith, append_assoc, append-nil}
 use Rattle.std.specs.Prelude.{◌==◌, nat_le}
 use Rattle.std.specs.List.{list_all}
@@ -24,10 +24,10 @@ abbrev value_or : Result Value ScanError → Value
 value_or (Ok value) = value
 value_or (Err fault) = Unknown 0 []
 
-abbrev pub spelled_value : List Symbol → Value
+abbrev spelled_value : List Symbol → Value
 spelled_value token = value_or (spells (octets_of token))
 
-abbrev pub is_spelled : List Symbol → Bool
+abbrev is_spelled : List Symbol → Bool
 is_spelled token = is_ok (spells (octets_of token))
 
 ok_value : (spelled : Result Value ScanError) → is_ok spelled ≡ true → spelled ≡ Ok (value_or spelled)

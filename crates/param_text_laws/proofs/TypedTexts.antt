@@ -1,13 +1,12 @@
--- Values of a type are read back from their texts, all but protocols. Offered to the crates above: a lemma for each type.
-use Rattle.std.proofs.Common.{◌≡◌, ℕ, zero, suc, ◌^◌, ◌<◌, Bool, true, false, cond, not, ◌||◌, List, [], ◌∷◌, ◌++◌, length, codes, Option, Some, Result, Ok, Err, refl, sym, ap, ◌∙◌, subst, arith}
+-- Values of a type are read back from their texts, all but protocols.
+use Rattle.std.proofs.Common.{◌≡◌, ℕ, zero, suc, ◌^◌, ◌<◌, true, false, cond, not, List, [], ◌∷◌, ◌++◌, length, codes, Option, Some, Result, Ok, Err, refl, sym, ap, ◌∙◌, subst, arith}
 use Rattle.std.specs.Prelude.{◌==◌, nat_lt, nat_le}
 use Rattle.std.specs.Fmt.{decimal}
-use Rattle.std.specs.List.{concat, list_all, list_any}
+use Rattle.std.specs.List.{concat, list_all}
 use Rattle.std.specs.Option.{ok_or}
 use Rattle.std.specs.Str.{is_utf8, IsAscii}
 use Rattle.std.proofs.lemmas.Bool.{and_parts, and_from}
 use Rattle.std.proofs.lemmas.Bool.Decides.{nat_tests}
-use Rattle.std.proofs.lemmas.List.Folds.{list_any-append}
 use Rattle.std.proofs.lemmas.Str.{IsUtf8-from_ascii, is_utf8-from_IsUtf8}
 use Rattle.base64.specs.Rfc4648.{encode_symbols}
 use Rattle.printed_spec.specs.Printed.{printed_octets}
@@ -20,7 +19,7 @@ use Rattle.registry.specs.KeyLaws.{spelled_key-printed_key}
 use Rattle.registry.specs.TextLaws.{spelled_number-decimal}
 use Rattle.svcb_spec.specs.Values.{Mandatory, NoDefaultAlpn, Port, Ipv4Hint, Ech, Ipv6Hint, DohPath, Ohttp, TlsSupportedGroups, encode, Each}
 use Rattle.text_spec.specs.declared.errors.ScanError.{ScanError}
-use Rattle.text_spec.specs.declared.errors.ScanError.TheVariants.{UnknownKey, BadNumber, BadAddress, BadBase64, BadPort, KeyZeroInMandatory, DuplicateItem, BadUtf8}
+use Rattle.text_spec.specs.declared.errors.ScanError.TheVariants.{UnknownKey, BadNumber, BadAddress, BadBase64, BadPort, KeyZeroInMandatory, BadUtf8}
 use Rattle.text_spec.specs.Encodings.{base64_of, base64_text}
 use Rattle.text_spec.specs.Pieces.{is_bare}
 use Rattle.text_spec.proofs.EncodingTexts.{base64_again}
@@ -33,7 +32,9 @@ use Rattle.param_text_laws.specs.Laws.{IsTextOf}
 use Rattle.param_text_laws.proofs.BareTexts.{bare-plain, bare_text_of, spells-behind}
 use Rattle.param_text_laws.proofs.OpaqueTexts.{short_again, with_text_again}
 use Rattle.param_text_laws.proofs.ItemTexts.{IsItemText, item-decimal, item-ipv4, item-ipv6, item-key_name}
-use Rattle.param_text_laws.proofs.ListTexts.{items_again, plain_item_again, IsReadBack, some_text_again, list_again, Each-map, bare-items}
+use Rattle.param_text_laws.proofs.PlainLists.{AllNew, Each-map, some_text_again}
+use Rattle.param_text_laws.proofs.NumberLists.{is_in, or_false, IsNew, new_again, distinct-all_new}
+use Rattle.param_text_laws.proofs.ListTexts.{items_again, item_again, IsReadBack, list_again, bare-items}
 
 -- ---- values without a list
 
@@ -109,7 +110,7 @@ dohpath_again octets are few =
 address_again : (address : List ℕ → Option (List ℕ)) (print : List ℕ → List ℕ) (before : List (List ℕ)) (item : List ℕ) → IsItemText (print item)
     → address (print item) ≡ Some item → address_item address before (print item) ≡ Ok item
 address_again address print before item is read =
-    ap (λ r. r >>= λ text. ok_or (address text) BadAddress) (plain_item_again (print item) is) ∙ ap (λ (o : Option (List ℕ)). ok_or o BadAddress) read
+    ap (λ r. r >>= λ text. ok_or (address text) BadAddress) (item_again (print item) is) ∙ ap (λ (o : Option (List ℕ)). ok_or o BadAddress) read
 
 addresses_back : (address : List ℕ → Option (List ℕ)) (print : List ℕ → List ℕ) (before items : List (List ℕ)) → Each (λ item. IsItemText (print item)) items
     → Each (λ item. address (print item) ≡ Some item) items → IsReadBack (address_item address) print before items
@@ -150,55 +151,17 @@ ipv6hint_again address addresses sixteen are few =
 
 -- ---- numbers, none twice
 
-abbrev is_in : List ℕ → ℕ → Bool
-is_in numbers n = list_any (λ m. m == n) numbers
-
-abbrev AreNew : List ℕ → List ℕ → Type 0
-AreNew before numbers = Each (λ n. is_in before n ≡ false) numbers
-
-or_false : (a b : Bool) → a ≡ false → b ≡ false → (a || b) ≡ false
-or_false a b is is' = rw is is'
-
-not_true : (b : Bool) → not b ≡ true → b ≡ false
-not_true true is = absurd cc
-not_true false is = refl
-
-same_test : (n m : ℕ) → (n == m) ≡ false → (m == n) ≡ false
-same_test n m other = grind (arith, nat_tests)
-
-or_parts : (a b : Bool) → (a || b) ≡ false → (a ≡ false) × (b ≡ false)
-or_parts true b is = absurd cc
-or_parts false b is = (refl, is)
-
--- a number in front of others is none before them
-new_behind : (before : List ℕ) (n : ℕ) (numbers : List ℕ) → AreNew before numbers → is_in numbers n ≡ false → AreNew (before ++ n ∷ []) numbers
-new_behind before n [] new other = tt
-new_behind before n (m ∷ numbers) new other =
-    let parts = or_parts (m == n) (is_in numbers n) other in (
-      list_any-append (λ k. k == m) before (n ∷ []) ∙ or_false (is_in before m) (is_in (n ∷ []) m) new.0 (or_false (n == m) false (same_test m n parts.0) refl),
-      new_behind before n numbers new.1 parts.1,
-    )
-
-new_again : (before : List ℕ) (n : ℕ) → is_in before n ≡ false → new_item before n ≡ Ok n
-new_again before n new = ap (λ b. cond b (Err DuplicateItem) (Ok n)) new
-
 -- a rule that reads each new number of a kind reads distinct ones
 numbers_back : (P : ℕ → Type 0) (rule : List ℕ → List ℕ → Result ℕ ScanError) (print : ℕ → List ℕ)
     → ((before : List ℕ) (n : ℕ) → P n → is_in before n ≡ false → rule before (print n) ≡ Ok n)
-    → (before numbers : List ℕ) → Each P numbers → AreNew before numbers → are_distinct numbers ≡ true → IsReadBack rule print before numbers
-numbers_back P rule print reads before [] are new distinct = tt
-numbers_back P rule print reads before (n ∷ numbers) are new distinct =
-    let parts = and_parts (not (is_in numbers n)) (are_distinct numbers) distinct in
-    let other = not_true (is_in numbers n) parts.0 in
-    (reads before n are.0 new.0, numbers_back P rule print reads (before ++ n ∷ []) numbers are.1 (new_behind before n numbers new.1 other) parts.1)
-
-all_new : (numbers : List ℕ) → AreNew [] numbers
-all_new [] = tt
-all_new (n ∷ numbers) = (refl, all_new numbers)
+    → (before numbers : List ℕ) → AllNew (IsNew P) before numbers → IsReadBack rule print before numbers
+numbers_back P rule print reads before [] new = tt
+numbers_back P rule print reads before (n ∷ numbers) new =
+    (reads before n new.0.0 new.0.1, numbers_back P rule print reads (before ++ n ∷ []) numbers new.1)
 
 group_again : (before : List ℕ) (n : ℕ) → n < 65536 → is_in before n ≡ false → group_item before (decimal n) ≡ Ok n
 group_again before n small new =
-    ap (λ r. r >>= λ text. ok_or (spelled_number (2 ^ 16) text) BadNumber >>= new_item before) (plain_item_again (decimal n) (item-decimal n (omega arith)))
+    ap (λ r. r >>= λ text. ok_or (spelled_number (2 ^ 16) text) BadNumber >>= new_item before) (item_again (decimal n) (item-decimal n (omega arith)))
     ∙ ap (λ (o : Option ℕ). ok_or o BadNumber >>= new_item before) (spelled_number-decimal 65536 n small (omega arith))
     ∙ new_again before n new
 
@@ -208,7 +171,7 @@ groups_again group groups small distinct few =
     let texts = Each-map (λ n. n < 65536) (λ n. IsItemText (decimal n)) (group ∷ groups) (λ n lt. item-decimal n (omega arith)) small in
     items_again (codes "tls-supported-groups") decimal decimal group groups (TlsSupportedGroups (group ∷ groups)) refl (bare-items decimal (group ∷ groups) texts)
     (list_again group_item decimal TlsSupportedGroups group groups texts
-    (numbers_back (λ n. n < 65536) group_item decimal group_again [] (group ∷ groups) small (all_new (group ∷ groups)) distinct) few)
+    (numbers_back (λ n. n < 65536) group_item decimal group_again [] (group ∷ groups) (distinct-all_new (λ n. n < 65536) (group ∷ groups) small distinct)) few)
 
 -- ---- keys
 
@@ -220,7 +183,7 @@ mandatory_again before key listed new =
     let above : 0 < key = listed.0 in
     let other : (key == 0) ≡ false = grind (arith, nat_tests) in
     ap (λ r. r >>= λ text. ok_or (spelled_key parameter_keys text) UnknownKey >>= λ key. other_key key >>= new_item before)
-    (plain_item_again (key_name key) (item-key_name key listed.1))
+    (item_again (key_name key) (item-key_name key listed.1))
     ∙ ap (λ (o : Option ℕ). ok_or o UnknownKey >>= λ key. other_key key >>= new_item before) (spelled_key-printed_key parameter_keys refl key listed.1)
     ∙ ap (λ b. cond b (Err KeyZeroInMandatory) (Ok key) >>= new_item before) other
     ∙ new_again before key new
@@ -244,7 +207,7 @@ ascends_new n (key ∷ keys) ascends =
     or_false (key == n) (is_in keys n) (above_other n key parts.0) (ascends_new n keys (ascends_lower n key keys parts.0 parts.1))
 
 -- keys that ascend are distinct
-pub ascends_distinct : (least : ℕ) (keys : List ℕ) → ascends_above least keys ≡ true → are_distinct keys ≡ true
+ascends_distinct : (least : ℕ) (keys : List ℕ) → ascends_above least keys ≡ true → are_distinct keys ≡ true
 ascends_distinct least [] ascends = refl
 ascends_distinct least (key ∷ keys) ascends =
     let parts = and_parts (nat_lt least key) (ascends_above key keys) ascends in
@@ -283,6 +246,7 @@ mandatory_value_again key keys small ascends few =
     let texts = Each-map IsListedKey (λ n. IsItemText (key_name n)) (key ∷ keys) (λ n is. item-key_name n is.1) listed in
     items_again (codes "mandatory") key_name key_name key keys (Mandatory (key ∷ keys)) refl (bare-items key_name (key ∷ keys) texts)
     (list_again mandatory_item key_name (λ (ns : List ℕ). Mandatory (ascending ns)) key keys texts
-    (numbers_back IsListedKey mandatory_item key_name mandatory_again [] (key ∷ keys) listed (all_new (key ∷ keys)) (ascends_distinct 0 (key ∷ keys) ascends))
+    (numbers_back IsListedKey mandatory_item key_name mandatory_again [] (key ∷ keys)
+    (distinct-all_new IsListedKey (key ∷ keys) listed (ascends_distinct 0 (key ∷ keys) ascends)))
     (subst (λ (ns : List ℕ). length (encode (Mandatory ns)) < 65536) (sym in_order) few)
     ∙ ap (λ (ns : List ℕ). Ok (Mandatory ns)) in_order)

@@ -1,13 +1,13 @@
--- Values are read back from their texts. Offered to the crates above: `typed_again`.
+-- Values are read back from their texts.
 use Rattle.std.proofs.Common.{◌≡◌, ℕ, ◌<◌, true, List, [], ◌∷◌, length, arith}
 use Rattle.std.specs.List.{list_all}
 use Rattle.std.proofs.lemmas.Bool.{and_parts}
 use Rattle.printed_spec.specs.Laws.{AreOctets}
 use Rattle.svcb_spec.specs.Values.{Mandatory, Alpn, NoDefaultAlpn, Port, Ipv4Hint, Ech, Ipv6Hint, DohPath, Ohttp, TlsSupportedGroups, Unknown, protocols_wire, Each}
 use Rattle.param_text_spec.specs.PrintedParams.{holds_key, ascends_above, has_some}
-use Rattle.param_text_laws.specs.Laws.{TypedReadBack}
+use Rattle.param_text_laws.specs.Laws.{TypedReadBack, IsProtocol}
 use Rattle.param_text_laws.proofs.TypedTexts.{no_default_alpn_again, ohttp_again, port_again, ech_again, dohpath_again, octets-front, ipv4hint_again, ipv6hint_again, groups_again, mandatory_value_again}
-use Rattle.param_text_laws.proofs.AlpnTexts.{IsProtocol, alpn_again}
+use Rattle.param_text_laws.proofs.AlpnTexts.{alpn_again}
 
 protocols_octets : (protocols : List (List ℕ)) → AreOctets (protocols_wire protocols) → Each AreOctets protocols
 protocols_octets [] are = tt

@@ -56,7 +56,8 @@ unfoldable pub protocols_within : ℕ → List ℕ → Result (List (List ℕ)) 
 protocols_within zero text = Ok []
 protocols_within (suc count) text = protocol_item text >>= protocols_step (protocols_within count)
 
--- the protocols of a list; each takes at least one octet, so so many are enough
+-- The protocols of a list. Each takes at least one octet, so this count is enough: the law `protocols_by_step` says that
+-- the definition is a step of itself.
 abbrev pub protocols_of : List ℕ → Result (List (List ℕ)) ScanError
 protocols_of text = protocols_within (suc (length text)) text
 
