@@ -1,1 +1,3 @@
 mod PlainTexts
+mod Fields
+mod UnionTexts

@@ -1,22 +1,30 @@
 -- Laws of the data of records of any type, which the functions of `src/laws.rt` state.
-use Rattle.std.specs.Prelude.{ℕ, ◌≤◌, List, length}
+use Rattle.std.specs.Prelude.{◌≡◌, ◌≤◌, false, length}
 use Rattle.printed_spec.specs.Laws.{AreOctets}
-use Rattle.wire_records.specs.UnknownView.{UnknownData}
-use Rattle.association_spec.specs.Ipseckeys.{IsAddress}
+use Rattle.association_spec.specs.Rows.{IsData, sshfp, tlsa, cds, cdnskey, openpgpkey, zonemd}
+use Rattle.association_spec.specs.Ipseckeys.{IsAddress, IsIpseckey, lacks_key}
 use Rattle.association_laws.specs.Laws.{IsTextOf}
-use Rattle.union_spec.specs.RecordData.{A, Aaaa, Unknown}
+use Rattle.rdata_text_laws.specs.Laws as service
+use Rattle.union_spec.specs.RecordData.{RecordData, A, Aaaa, Sshfp, Ipseckey, Tlsa, Cds, Cdnskey, Openpgpkey, Zonemd, Svcb, Https, Unknown, rtype_of}
 use Rattle.union_spec.specs.Texts.{union_scan, union_printed}
 
--- the printed text of an address has tokens, and those are scanned under the number of its type as that address
-abbrev pub ATextReadBack : Type 0
-ATextReadBack = (address : List ℕ) → IsAddress 4 address
-    → IsTextOf (union_scan 1) (union_printed (A address)) (A address)
+-- data of a type: its parts are octets, its numbers and lengths fit, and no IPSECKEY key is missing
+abbrev pub IsUnionData : RecordData → Type 0
+IsUnionData (A address) = IsAddress 4 address
+IsUnionData (Aaaa address) = IsAddress 16 address
+IsUnionData (Sshfp found) = IsData sshfp found
+IsUnionData (Ipseckey found) = IsIpseckey found × (lacks_key found.algorithm found.key ≡ false)
+IsUnionData (Tlsa found) = IsData tlsa found
+IsUnionData (Cds found) = IsData cds found
+IsUnionData (Cdnskey found) = IsData cdnskey found
+IsUnionData (Openpgpkey found) = IsData openpgpkey found
+IsUnionData (Zonemd found) = IsData zonemd found
+IsUnionData (Svcb found) = service.IsData found
+IsUnionData (Https found) = service.IsData found
+IsUnionData (Unknown found) = AreOctets found.octets × (length found.octets ≤ 65535)
 
-abbrev pub AaaaTextReadBack : Type 0
-AaaaTextReadBack = (address : List ℕ) → IsAddress 16 address
-    → IsTextOf (union_scan 28) (union_printed (Aaaa address)) (Aaaa address)
-
--- and so is that of octets under any type number, also that of a type with fields
-abbrev pub UnknownTextReadBack : Type 0
-UnknownTextReadBack = (found : UnknownData) → AreOctets found.octets → length found.octets ≤ 65535
-    → IsTextOf (union_scan found.rtype) (union_printed (Unknown found)) (Unknown found)
+-- The printed text of data has tokens, and those are scanned under the number of its type as that data. So it is also of
+-- octets under the number of a type that has fields.
+abbrev pub UnionTextReadBack : Type 0
+UnionTextReadBack = (found : RecordData) → IsUnionData found
+    → IsTextOf (union_scan (rtype_of found)) (union_printed found) found

@@ -1,18 +1,15 @@
 //! Laws of the data of records of any type, each proved for all arguments. The functions do nothing when they run.
 
-ghost use Rattle.union_laws.specs.Laws.{ATextReadBack, AaaaTextReadBack, UnknownTextReadBack};
+ghost use Rattle.union_laws.specs.Laws.{UnionTextReadBack};
 
-/// The printed text of an IPv4 address is scanned as A data.
-pub fn a_text_read_back()
-    ensures { ATextReadBack }
-{}
+use association_laws::laws::{data_text_read_back, ipseckey_text_read_back, types_are_rows};
 
-/// The printed text of an IPv6 address is scanned as AAAA data.
-pub fn aaaa_text_read_back()
-    ensures { AaaaTextReadBack }
-{}
-
-/// The printed text of octets under any type number is scanned under that number as these octets.
-pub fn unknown_text_read_back()
-    ensures { UnknownTextReadBack }
-{}
+/// The printed text of data of any type is scanned under the number of its type as that data: the fields of the eleven
+/// types, and octets under any number.
+pub fn union_text_read_back()
+    ensures { UnionTextReadBack }
+{
+    data_text_read_back();
+    types_are_rows();
+    ipseckey_text_read_back();
+}
