@@ -1,4 +1,5 @@
--- The tokens of numbers and of a last field, which the texts of data are made of.
+-- The tokens of numbers and of a last field, which the texts of data are made of. Offered to the crates above, with
+-- `text_of`, which makes the law of a text of its tokens.
 use Rattle.std.proofs.Common.{◌≡◌, ℕ, ◌+◌, ◌^◌, ◌<◌, ◌≤◌, List, [], ◌∷◌, ◌++◌, length, map, Option, Some, None, Ok, refl, sym, ap, ap₂, ◌∙◌, subst, append-nil, length-append, arith}
 use Rattle.std.specs.Prelude.{codes}
 use Rattle.std.specs.List.{flat_map}

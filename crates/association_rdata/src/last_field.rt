@@ -11,7 +11,7 @@ use std::fmt;
 use wire_records::Base16;
 
 /// The last field of a record's data as `Display` prints it: a key, a digest or a certificate.
-#[derive(Clone, Copy)]
+#[derive(Clone, Copy, Debug)]
 pub struct LastText<'a> {
     /// The octets of the field.
     pub octets: &'a [u8],

@@ -1,4 +1,4 @@
--- How the data of these records is compared, and the laws of these comparisons.
+-- How the data of these records is compared, and the laws of these comparisons, which an `impl` cites.
 use Rattle.std.proofs.Common.{◌≡◌, ℕ, Bool, true, List, [], ◌∷◌, ◌++◌, ap, ap₂}
 use Rattle.std.specs.Prelude.{◌==◌, if◌then◌else◌}
 use Rattle.std.specs.declared.cmp.Ordering.{Ordering}

@@ -1,4 +1,4 @@
--- How the data of IPSECKEY records is compared, and the laws of these comparisons.
+-- How the data of IPSECKEY records is compared, and the laws of these comparisons, which an `impl` cites.
 use Rattle.std.proofs.Common.{◌≡◌, ℕ, Bool, false, true, List, ◌++◌, Option, Some, None, refl, ap, arith}
 use Rattle.std.specs.Prelude.{◌==◌, ◌&&◌, if◌then◌else◌}
 use Rattle.std.specs.List.{flat_map}

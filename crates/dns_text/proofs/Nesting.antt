@@ -1,4 +1,5 @@
--- A document that holds another: what a call that lays out a part means for the whole.
+-- A document that holds another: what a call that lays out a part means for the whole. Offered to the crates above:
+-- `shows`, `shows_behind`, `shows_stopped` and `same_blocks`.
 use Rattle.std.proofs.Common.{◌≡◌, ◌∙◌, sym, ap, subst, List, ◌++◌, Result, Ok, Err}
 use Rattle.std.specs.Prelude.{IsErr}
 use Rattle.std.proofs.lemmas.Result.{on_ok_weaker, on_err_weaker}

@@ -1,4 +1,4 @@
--- The items of a number are a document.
+-- The items of a number are a document. Offered to the crates above: `one_line-number_comment`.
 use Rattle.std.specs.Prelude.{◌≡◌, ℕ, Bool, true, false, ◌==◌, if◌then◌else◌, List, [], ◌∷◌, ◌++◌, length, Option, Some, None, refl, not, ◌||◌, IsTrue, codes}
 use Rattle.std.specs.List.{list_any}
 use Rattle.registry.specs.Tables.{is_one_line, mnemonic_of, MnemonicsOneLine}

@@ -34,10 +34,10 @@ impl<'t> Entry<'t> {
     ///
     /// A refusal is the first fault of the text, in the order in which it is read:
     ///
-    /// - `BadSymbol`: a control octet (0x00 to 0x1F, 0x7F) that is no tab, carriage return or line's end; in quotes, any
-    ///   that is no tab.
-    /// - `BadEscape`: a backslash with no escape behind it: at the text's end, before an octet outside space to `~`, before
-    ///   fewer than three digits, and before three of more than 255.
+    /// - `BadSymbol`: a control octet (0x00 to 0x1F, 0x7F) that is no tab, carriage return or line's end; in quotes,
+    ///   any that is no tab.
+    /// - `BadEscape`: a backslash with no escape behind it: at the text's end, before an octet outside space to `~`,
+    ///   before fewer than three digits, and before three of more than 255.
     /// - `OpenQuote`: the text ends in quotes.
     /// - `BadBracket`: a `)` outside brackets, or the text ends within brackets.
     /// - `TrailingTokens`: behind the line's end that ends the entry stands something else than blanks, line ends and

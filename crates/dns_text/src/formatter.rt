@@ -4,6 +4,7 @@ ghost use Rattle.std.specs.Prelude.{◌≡◌, ◌<◌, ◌++◌, [], ◌∷◌,
 ghost use Rattle.std.specs.String.{string_bytes};
 ghost use Rattle.std.specs.Fmt.{decimal};
 ghost use Rattle.printed_spec.specs.Printed.{printed_name_with_dot};
+ghost use Rattle.wire_base.specs.Moving.{AppendsOctets};
 ghost use Rattle.registry.specs.Tables.{mnemonic_of};
 ghost use Rattle.text_spec.specs.Encodings.{base16_text, base64_text};
 ghost use Rattle.text_spec.specs.Layouts.{Token, Comment, BlockBegin, BlockEnd, empty_layout, separator, IsOneLine};
@@ -21,9 +22,6 @@ use wire_base::{Name, NoMemory, Octets};
 
 /// A layout that grows item by item. Contracts see the kind, the text so far, the count of open blocks, and whether the
 /// last thing written is a comment.
-///
-/// Each call that writes is refused for want of memory alone, as `NoMemory`. Except for `write_show`, the layout then
-/// stays.
 #[derive(Debug, Drop)]
 pub struct Formatter {
     kind: DisplayKind,
@@ -45,8 +43,7 @@ impl Model for Formatter {
 
 // Appends two pieces, or nothing.
 fn append(text: &mut Vec<u8>, first: &[u8], second: &[u8]) -> Result<(), NoMemory>
-    ensures ok { OnOk result (text.new.items ≡ text.old.items ++ (first.now ++ second.now)) }
-    ensures err { OnErr result (text.new.items ≡ text.old.items) }
+    ensures { AppendsOctets text.old.items text.new.items (first.now ++ second.now) result }
 {
     let len = first.len().checked_add(second.len()).ok_or(NoMemory)?;
     text.reserve(len)?;
@@ -107,6 +104,8 @@ impl Formatter {
     }
 
     /// Writes a token, behind a separator where something stands before it. A token without octets writes nothing.
+    ///
+    /// `NoMemory`: the memory for it isn't there. The layout then stays.
     pub fn write_token(&mut self, token: &[u8]) -> Result<(), NoMemory>
         ensures { Writes self.old (Token token.now ∷ []) self.new result }
     {
@@ -134,6 +133,8 @@ impl Formatter {
     }
 
     /// Begins a block, which stands in brackets in Multiline.
+    ///
+    /// `NoMemory`: the memory for the bracket isn't there. The layout then stays.
     pub fn begin_block(&mut self) -> Result<(), NoMemory>
         ensures { Writes self.old (BlockBegin ∷ []) self.new result }
     {
@@ -142,6 +143,8 @@ impl Formatter {
     }
 
     /// Ends the block that was begun last.
+    ///
+    /// `NoMemory`: the memory for the bracket isn't there. The layout then stays.
     pub fn end_block(&mut self) -> Result<(), NoMemory>
         requires { 0 < self.old.layout.blocks }
         ensures { Writes self.old (BlockEnd ∷ []) self.new result }
@@ -151,6 +154,8 @@ impl Formatter {
     }
 
     /// Writes a comment, which Multiline alone shows, and within blocks alone: `; `, the text, a line feed and a tab.
+    ///
+    /// `NoMemory`: the memory for it isn't there. The layout then stays.
     pub fn write_comment(&mut self, text: &str) -> Result<(), NoMemory>
         requires { IsOneLine text.now }
         ensures { Writes self.old (Comment text.now ∷ []) self.new result }
@@ -169,7 +174,10 @@ impl Formatter {
         Ok(())
     }
 
-    /// Writes what a value prints as a token. Where the type doesn't state what it prints, the token's text is not known.
+    /// Writes what a value prints as a token. Where the type doesn't state what it prints, the token's text is not
+    /// known.
+    ///
+    /// `NoMemory`: the memory for it isn't there, or the value's own `fmt` refuses. The layout then stays.
     pub fn write_display<T: Display>(&mut self, value: &T) -> Result<(), NoMemory>
         ensures token { IfSome (T.output value.now)
             (λ text. Writes self.old (Token text ∷ []) self.new result) }
@@ -180,6 +188,8 @@ impl Formatter {
     }
 
     /// Writes a number in decimal digits as a token.
+    ///
+    /// `NoMemory`: the memory for it isn't there. The layout then stays.
     pub fn write_decimal(&mut self, value: u32) -> Result<(), NoMemory>
         ensures { Writes self.old (Token (decimal value) ∷ []) self.new result }
     {
@@ -187,16 +197,22 @@ impl Formatter {
     }
 
     /// Writes a name with its final dot as a token.
+    ///
+    /// `NoMemory`: the memory for it isn't there. The layout then stays.
     pub fn write_name(&mut self, name: &Name) -> Result<(), NoMemory>
         ensures { Writes self.old (Token (printed_name_with_dot name.now) ∷ []) self.new result }
     {
         self.write_display(&name.fmt_with_dot())
     }
 
-    /// Writes the text of a registry's number as a token, and a comment of its name and mnemonic where comments name it.
+    /// Writes the text of a registry's number as a token, and a comment of its name and mnemonic where comments name
+    /// it.
+    ///
+    /// `NoMemory`: the memory for both isn't there. The layout then stays.
     pub fn write_number<T: IanaNumber>(&mut self, value: T) -> Result<(), NoMemory>
         ensures { Writes self.old
-            (number_items (T.prints (T.number value)) T.COMMENT (mnemonic_of T.rows (T.number value)))
+            (number_items (T.prints (T.number value)) T.COMMENT
+            (mnemonic_of T.rows (T.number value)))
             self.new result }
     {
         let name = T::comment_name();
@@ -226,6 +242,8 @@ impl Formatter {
     }
 
     /// Writes octets in base64, with padding, as a token (RFC 4648, section 4).
+    ///
+    /// `NoMemory`: the memory for it isn't there. The layout then stays.
     pub fn write_base64(&mut self, octets: &[u8]) -> Result<(), NoMemory>
         ensures { Writes self.old (Token (base64_text octets.now) ∷ []) self.new result }
     {
@@ -234,6 +252,8 @@ impl Formatter {
     }
 
     /// Writes octets in base16, in upper case, as a token (RFC 4648, section 8).
+    ///
+    /// `NoMemory`: the memory for it isn't there. The layout then stays.
     pub fn write_base16(&mut self, octets: &[u8]) -> Result<(), NoMemory>
         ensures { Writes self.old (Token (base16_text octets.now) ∷ []) self.new result }
     {
@@ -241,7 +261,9 @@ impl Formatter {
         self.write_token(text.as_bytes())
     }
 
-    /// Lays out a value's document. Refused as its `fmt_zone` is: a front of the items may be laid out then.
+    /// Lays out a value's document.
+    ///
+    /// `NoMemory`: its `fmt_zone` refuses so. A front of the items may be laid out then.
     pub fn write_show<T: ZonefileFmt>(&mut self, value: &T) -> Result<(), NoMemory>
         ensures { Shows self.old (T.document value.now) self.new result }
     {

@@ -13,8 +13,8 @@ use wire_base::{Name, Octets};
 /// The most octets of a label (RFC 1035, section 2.3.4).
 const MAX_LABEL_LEN: usize = 63;
 
-/// The most octets of a name's labels with their lengths, without the root (RFC 1035, section 2.3.4). A name text has no
-/// more symbols than that: each stands for an octet of a label or, as a dot, for a label's length.
+/// The most octets of a name's labels with their lengths, without the root (RFC 1035, section 2.3.4). A name text has
+/// no more symbols than that: each stands for an octet of a label or, as a dot, for a label's length.
 const MAX_LABEL_OCTETS: usize = 254;
 
 /// The name that a token spells.

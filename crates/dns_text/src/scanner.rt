@@ -16,10 +16,10 @@ use wire_base::{Name, Octets};
 
 /// Takes the tokens of an entry one by one.
 ///
-/// A scanner says by `scan` what the entry's tokens are and how many of them are taken, and owes the five calls without a
-/// body here. All others come with the trait. A call that scans takes the next token, or all that are left; where it is
-/// refused, the scanner stays as it was. `EndOfEntry` comes exactly where a token is asked for and none is left, and
-/// `NoMemory` only for want of memory.
+/// A scanner says by `scan` what the entry's tokens are and how many of them are taken, and owes the five calls
+/// without a body here. All others come with the trait. A call that scans takes the next token, or all that are left;
+/// where it is refused, the scanner stays as it was. `EndOfEntry` comes exactly where a token is asked for and none
+/// is left, and `NoMemory` only for want of memory.
 pub trait Scanner {
     /// The entry's tokens, and how many of them are taken.
     ghost scan: { Self → Scan };
@@ -43,8 +43,8 @@ pub trait Scanner {
         ensures { Scans (λ symbols. symbols.items) (one Ok)
             (scan self.old) (scan self.new) result };
 
-    /// Takes the next token exactly where it is the one escaped symbol `#`, and says whether it is (RFC 3597, section 5).
-    /// It takes no memory.
+    /// Takes the next token exactly where it is the one escaped symbol `#`, and says whether it is (RFC 3597, section
+    /// 5). It takes no memory.
     fn scan_opt_unknown_marker(&mut self) -> bool
         ensures marked { result ≡ is_marked (scan self.old).tokens (scan self.old).taken }
         ensures taken { scan self.new ≡ record (scan self.old)
@@ -68,8 +68,8 @@ pub trait Scanner {
         outcome
     }
 
-    /// The outcome of a scan of several tokens that began where so many tokens were taken. Where memory was wanting, the
-    /// scanner goes back there; any other refusal stands where it stood.
+    /// The outcome of a scan of several tokens that began where so many tokens were taken. Where memory was wanting,
+    /// the scanner goes back there; any other refusal stands where it stood.
     fn stay_without_memory<T>(
         &mut self,
         place: usize,
@@ -173,9 +173,9 @@ pub trait Scanner {
 
     /// The name that the next token spells (RFC 1035, section 5.1), which is absolute with a final dot and without one.
     ///
-    /// `EndOfEntry`: no token is left. `BadName`: the token is a lone `@`, is empty, has an empty part other than behind
-    /// a final dot, a part of more than 63 octets, or more than 254 octets in its parts and their lengths; a lone dot is
-    /// the root. `NoMemory`: the memory for the name isn't there. The scanner then stays.
+    /// `EndOfEntry`: no token is left. `BadName`: the token is a lone `@`, is empty, has an empty part other than
+    /// behind a final dot, a part of more than 63 octets, or more than 254 octets in its parts and their lengths; a
+    /// lone dot is the root. `NoMemory`: the memory for the name isn't there. The scanner then stays.
     fn scan_name(&mut self, alloc: Global) -> Result<Name, ScanError>
         ensures { Scans (λ name. name) name (scan self.old) (scan self.new) result }
     {
@@ -204,8 +204,8 @@ pub trait Scanner {
 
     /// The octets that all tokens left, joined, spell in base64 (RFC 4648, section 4); none where no token is left.
     ///
-    /// `BadBase64`: the tokens joined are no base64 text. `NoMemory`: the memory for the octets isn't there. The scanner
-    /// then stays.
+    /// `BadBase64`: the tokens joined are no base64 text. `NoMemory`: the memory for the octets isn't there. The
+    /// scanner then stays.
     fn scan_rest_base64(&mut self, alloc: Global) -> Result<Octets, ScanError>
         ensures { Scans (λ octets. octets) rest_base64 (scan self.old) (scan self.new) result }
     {
@@ -218,8 +218,8 @@ pub trait Scanner {
     /// The octets that all tokens left, joined, spell in base16 (RFC 4648, section 8), in either case; none where no
     /// token is left.
     ///
-    /// `BadBase16`: the tokens joined are no base16 text. `NoMemory`: the memory for the octets isn't there. The scanner
-    /// then stays.
+    /// `BadBase16`: the tokens joined are no base16 text. `NoMemory`: the memory for the octets isn't there. The
+    /// scanner then stays.
     fn scan_rest_base16(&mut self, alloc: Global) -> Result<Octets, ScanError>
         ensures { Scans (λ octets. octets) rest_base16 (scan self.old) (scan self.new) result }
     {

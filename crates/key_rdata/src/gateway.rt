@@ -39,10 +39,10 @@ impl IpseckeyGateway {
         ensures { result ≡ gateway_type (gateway_of self.now) }
     {
         match self {
-            IpseckeyGateway::None => IpseckeyGatewayType::NONE,
-            IpseckeyGateway::Ipv4(_) => IpseckeyGatewayType::IPV4,
-            IpseckeyGateway::Ipv6(_) => IpseckeyGatewayType::IPV6,
-            IpseckeyGateway::Name(_) => IpseckeyGatewayType::NAME,
+            Self::None => IpseckeyGatewayType::NONE,
+            Self::Ipv4(_) => IpseckeyGatewayType::IPV4,
+            Self::Ipv6(_) => IpseckeyGatewayType::IPV6,
+            Self::Name(_) => IpseckeyGatewayType::NAME,
         }
     }
 
@@ -61,10 +61,10 @@ impl IpseckeyGateway {
         ensures is_gateway { IsGateway (gateway_of self.now) }
     {
         match self {
-            IpseckeyGateway::None => 0,
-            IpseckeyGateway::Ipv4(address) => count_octets(&address.addr().octets()),
-            IpseckeyGateway::Ipv6(address) => count_octets(&address.addr().octets()),
-            IpseckeyGateway::Name(name) => count_octets(name.as_slice()),
+            Self::None => 0,
+            Self::Ipv4(address) => count_octets(&address.addr().octets()),
+            Self::Ipv6(address) => count_octets(&address.addr().octets()),
+            Self::Name(name) => count_octets(name.as_slice()),
         }
     }
 
@@ -122,10 +122,10 @@ impl IpseckeyGateway {
         ensures { IfOk result (λ copy. copy ≡ self.now) }
     {
         match self {
-            IpseckeyGateway::None => Ok(IpseckeyGateway::None),
-            IpseckeyGateway::Ipv4(address) => Ok(IpseckeyGateway::Ipv4(*address)),
-            IpseckeyGateway::Ipv6(address) => Ok(IpseckeyGateway::Ipv6(*address)),
-            IpseckeyGateway::Name(name) => Ok(IpseckeyGateway::Name(name.try_clone(alloc)?)),
+            Self::None => Ok(Self::None),
+            Self::Ipv4(address) => Ok(Self::Ipv4(*address)),
+            Self::Ipv6(address) => Ok(Self::Ipv6(*address)),
+            Self::Name(name) => Ok(Self::Name(name.try_clone(alloc)?)),
         }
     }
 
@@ -138,14 +138,14 @@ impl IpseckeyGateway {
         ensures capacity { vec_capacity target.old ≤ vec_capacity target.new }
     {
         match self {
-            IpseckeyGateway::None => {}
-            IpseckeyGateway::Ipv4(address) => {
+            Self::None => {}
+            Self::Ipv4(address) => {
                 target.extend_from_slice(&address.addr().octets()).unwrap();
             }
-            IpseckeyGateway::Ipv6(address) => {
+            Self::Ipv6(address) => {
                 target.extend_from_slice(&address.addr().octets()).unwrap();
             }
-            IpseckeyGateway::Name(name) => target.extend_from_slice(name.as_slice()).unwrap(),
+            Self::Name(name) => target.extend_from_slice(name.as_slice()).unwrap(),
         }
     }
 
@@ -154,16 +154,10 @@ impl IpseckeyGateway {
         ensures { result ≡ octets_cmp (gateway_of self.now) (gateway_of other.now) }
     {
         match (self, other) {
-            (IpseckeyGateway::None, IpseckeyGateway::None) => Ordering::Equal,
-            (IpseckeyGateway::Ipv4(address), IpseckeyGateway::Ipv4(other)) => {
-                address.canonical_cmp(other)
-            }
-            (IpseckeyGateway::Ipv6(address), IpseckeyGateway::Ipv6(other)) => {
-                address.canonical_cmp(other)
-            }
-            (IpseckeyGateway::Name(name), IpseckeyGateway::Name(other)) => {
-                name.as_slice().cmp(other.as_slice())
-            }
+            (Self::None, Self::None) => Ordering::Equal,
+            (Self::Ipv4(address), Self::Ipv4(other)) => { address.canonical_cmp(other) }
+            (Self::Ipv6(address), Self::Ipv6(other)) => { address.canonical_cmp(other) }
+            (Self::Name(name), Self::Name(other)) => { name.as_slice().cmp(other.as_slice()) }
             _ => self.gateway_type().cmp(&other.gateway_type()),
         }
     }

@@ -22,10 +22,10 @@ impl PartialEq for IpseckeyGateway {
 
     fn eq(&self, other: &IpseckeyGateway) -> bool {
         match (self, other) {
-            (IpseckeyGateway::None, IpseckeyGateway::None) => true,
-            (IpseckeyGateway::Ipv4(address), IpseckeyGateway::Ipv4(other)) => address == other,
-            (IpseckeyGateway::Ipv6(address), IpseckeyGateway::Ipv6(other)) => address == other,
-            (IpseckeyGateway::Name(name), IpseckeyGateway::Name(other)) => name.name_eq(other),
+            (Self::None, Self::None) => true,
+            (Self::Ipv4(address), Self::Ipv4(other)) => address == other,
+            (Self::Ipv6(address), Self::Ipv6(other)) => address == other,
+            (Self::Name(name), Self::Name(other)) => name.name_eq(other),
             _ => false,
         }
     }
@@ -54,16 +54,10 @@ impl PartialOrd for IpseckeyGateway {
 
     fn partial_cmp(&self, other: &IpseckeyGateway) -> Option<Ordering> {
         match (self, other) {
-            (IpseckeyGateway::None, IpseckeyGateway::None) => Some(Ordering::Equal),
-            (IpseckeyGateway::Ipv4(address), IpseckeyGateway::Ipv4(other)) => {
-                Some(address.cmp(other))
-            }
-            (IpseckeyGateway::Ipv6(address), IpseckeyGateway::Ipv6(other)) => {
-                Some(address.cmp(other))
-            }
-            (IpseckeyGateway::Name(name), IpseckeyGateway::Name(other)) => {
-                Some(name.name_cmp(other))
-            }
+            (Self::None, Self::None) => Some(Ordering::Equal),
+            (Self::Ipv4(address), Self::Ipv4(other)) => { Some(address.cmp(other)) }
+            (Self::Ipv6(address), Self::Ipv6(other)) => { Some(address.cmp(other)) }
+            (Self::Name(name), Self::Name(other)) => { Some(name.name_cmp(other)) }
             _ => None,
         }
     }
@@ -81,10 +75,10 @@ impl Hash for IpseckeyGateway {
     fn hash<H: Hasher>(&self, state: &mut H) {
         self.gateway_type().hash(state);
         match self {
-            IpseckeyGateway::None => {}
-            IpseckeyGateway::Ipv4(address) => address.hash(state),
-            IpseckeyGateway::Ipv6(address) => address.hash(state),
-            IpseckeyGateway::Name(name) => name.hash(state),
+            Self::None => {}
+            Self::Ipv4(address) => address.hash(state),
+            Self::Ipv6(address) => address.hash(state),
+            Self::Name(name) => name.hash(state),
         }
     }
 }

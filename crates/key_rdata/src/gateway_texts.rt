@@ -32,9 +32,9 @@ impl IpseckeyGateway {
     {
         match u8::from(gateway_type) {
             0 => scan_dot(alloc, scanner),
-            1 => Ok(IpseckeyGateway::Ipv4(scan_a(alloc, scanner)?)),
-            2 => Ok(IpseckeyGateway::Ipv6(scan_aaaa(alloc, scanner)?)),
-            3 => Ok(IpseckeyGateway::Name(scanner.scan_name(alloc)?)),
+            1 => Ok(Self::Ipv4(scan_a(alloc, scanner)?)),
+            2 => Ok(Self::Ipv6(scan_aaaa(alloc, scanner)?)),
+            3 => Ok(Self::Name(scanner.scan_name(alloc)?)),
             _ => Err(ScanError::UnknownGateway),
         }
     }
@@ -59,10 +59,10 @@ impl fmt::Display for IpseckeyGateway {
 
     fn fmt<W: fmt::Write>(&self, f: &mut fmt::Formatter<W>) -> fmt::Result {
         match self {
-            IpseckeyGateway::None => write!(f, "."),
-            IpseckeyGateway::Ipv4(address) => write!(f, "{address}"),
-            IpseckeyGateway::Ipv6(address) => write!(f, "{address}"),
-            IpseckeyGateway::Name(name) => write!(f, "{}", name.fmt_with_dot()),
+            Self::None => write!(f, "."),
+            Self::Ipv4(address) => write!(f, "{address}"),
+            Self::Ipv6(address) => write!(f, "{address}"),
+            Self::Name(name) => write!(f, "{}", name.fmt_with_dot()),
         }
     }
 }

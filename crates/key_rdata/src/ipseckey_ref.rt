@@ -31,7 +31,7 @@ impl<'a> IpseckeyRef<'a> {
         ensures fits { IfOk result (λ found. ipseckey_len (seen_ipseckey found) ≤ 65535) }
         ensures within { parser.new ≡ record parser.old { pos = parser.new.pos } }
     {
-        let len = parser.remaining();
+        let remaining = parser.remaining();
         let precedence = parser.parse_u8()?;
         let gateway_type = IpseckeyGatewayType::from(parser.parse_u8()?);
         let algorithm = IpseckeyAlgorithm::from(parser.parse_u8()?);
@@ -40,7 +40,7 @@ impl<'a> IpseckeyRef<'a> {
         if lacks_key(algorithm, key) {
             return Err(ParseError::ShortInput);
         }
-        LongRecordData::check_len(len)?;
+        LongRecordData::check_len(remaining)?;
         Ok(IpseckeyRef {
             precedence,
             algorithm,

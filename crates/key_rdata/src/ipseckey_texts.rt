@@ -73,7 +73,8 @@ fn scan_behind_numbers<S: Scanner>(
     gateway_type: IpseckeyGatewayType,
     algorithm: IpseckeyAlgorithm,
 ) -> Result<Ipseckey, ScanError>
-    ensures scans { ScansPart (λ found. found) (scan_behind_numbers precedence gateway_type algorithm)
+    ensures scans { ScansPart (λ found. found)
+        (scan_behind_numbers precedence gateway_type algorithm)
         (S.scan scanner.old) (S.scan scanner.new) result }
     ensures has_key { IfOk result (λ found. lacks_key found.algorithm found.key ≡ false) }
     ensures missing { IsErrOf result ScanError.MissingKey

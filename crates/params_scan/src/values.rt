@@ -8,7 +8,7 @@ ghost use Rattle.svcb_text.specs.AllValues.{value_of};
 ghost use Rattle.param_text_spec.specs.ParamTexts.{mandatory_keys};
 ghost use Rattle.params_scan.specs.Holding.{KeepsValue, pairs_of, has_entry, has_mandatory};
 
-use registry::{ComposeSvcParamValue, SvcParamValue};
+use registry::{ComposeSvcParamValue, Integer, SvcParamValue};
 use std::alloc::Global;
 use std::collections::BTreeMap;
 use std::collections::btree_map::Entry;
@@ -65,18 +65,18 @@ pub(crate) fn compose(alloc: Global, values: &BTreeMap<u16, AllValues>) -> Resul
 {
     let mut octets = Vec::new(alloc);
     for (key, value) in values {
-        compose_param(*key, value, &mut octets)?;
+        compose_with_key(*key, value, &mut octets)?;
     }
     Ok(Octets::from_vec(octets))
 }
 
-/// Appends a key, the length of a value, and the value. Refused for want of memory alone.
-#[tactic(auto, using(name_spec::proofs::OctetLaws::number_octets))]
-fn compose_param(key: u16, value: &AllValues, target: &mut Vec<u8>) -> Result<(), NoMemory>
+/// Appends a key, the length of a value, and the value, which composes itself: `svcb_value::parameter` writes values
+/// whose octets are at hand. Refused for want of memory alone.
+fn compose_with_key(key: u16, value: &AllValues, target: &mut Vec<u8>) -> Result<(), NoMemory>
     ensures { IfOk result (λ _. target.new.items
         ≡ target.old.items ++ pair_wire key (Some (encode (value_of value.now)))) }
 {
-    target.extend_from_slice(&key.to_be_bytes())?;
-    target.extend_from_slice(&value.compose_len().to_be_bytes())?;
+    key.compose(target)?;
+    value.compose_len().compose(target)?;
     value.compose_value(target)
 }

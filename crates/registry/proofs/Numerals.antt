@@ -1,4 +1,4 @@
--- A number text is UTF-8.
+-- A number text is UTF-8. Offered to the crates above: `no_text`.
 use Rattle.std.proofs.Common.{◌≡◌, ℕ, ◌<◌, List, [], ◌∷◌, Bool, true, false, cond, Some, None, refl, drop, arith}
 use Rattle.std.specs.Prelude.{nat_lt, ◌&&◌, ◌==◌}
 use Rattle.std.specs.Str.{IsAscii, IsUtf8}

@@ -1,4 +1,4 @@
--- A printed key of a service parameter is read back.
+-- A printed key of a service parameter is read back. Offered to the crates above: `spelled_key-printed_key`.
 use Rattle.std.proofs.Common.{◌≡◌, ℕ, ◌<◌, List, [], ◌∷◌, ◌++◌, Bool, true, false, cond, Option, Some, None, refl, sym, ap, ◌∙◌, arith, take}
 use Rattle.std.specs.Prelude.{◌==◌, not, codes, unwrap_or}
 use Rattle.std.specs.Option.{option_or}

@@ -1,4 +1,4 @@
--- What a look-up in a table finds is found back.
+-- What a look-up in a table finds is found back. Offered to the crates above: `mnemonic_of-one_line`.
 use Rattle.std.proofs.Common.{◌≡◌, ℕ, List, [], ◌∷◌, true, false, cond, Option, Some, None, refl, ap, ◌∙◌, subst, arith}
 use Rattle.std.specs.Prelude.{nat_lt, ◌==◌, is_none, option_map}
 use Rattle.std.proofs.lemmas.Bool.{and_parts}

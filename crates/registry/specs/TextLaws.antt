@@ -1,4 +1,5 @@
--- What is printed is read back, and std's `parse` reads number texts.
+-- What is printed is read back, and std's `parse` reads number texts. Offered to the crates above:
+-- `spelled_number-decimal`, `spelled_number-octet` and `parsed_text`.
 use Rattle.std.proofs.Common.{◌≡◌, ℕ, ◌^◌, ◌<◌, List, [], ◌∷◌, true, false, cond, Some, None, Result, Ok, Err, refl, sym, ap, ◌∙◌, arith}
 use Rattle.std.specs.Prelude.{nat_lt, ◌&&◌}
 use Rattle.std.specs.Result.{OkIff, result_ok}

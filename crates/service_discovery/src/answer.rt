@@ -28,7 +28,10 @@ fn next_record<'a>(parser: &mut Parser<'a>) -> Result<Record<'a>, ParseError> {
     Ok(Record { rtype, data })
 }
 
-/// The first HTTPS record among the answers of a message. No memory is taken: the record stays in the message.
+/// The first HTTPS record among the answers of a message; None where they hold none. No memory is taken: the record
+/// stays in the message.
+///
+/// `ShortInput`, `Form`: the first fault on the way to that record, or of its data. What stands behind it is not read.
 pub fn first_https(message: &[u8]) -> Result<Option<SvcbRef<'_, HttpsVariant>>, ParseError> {
     let mut parser = Parser::from_ref(message);
     // identifier and flags

@@ -5,14 +5,15 @@ ghost use Rattle.std.specs.Iterator.{YieldsFirstBy, item_count};
 
 use crate::list_type::{ListItems, ListType};
 use std::alloc::AllocError;
+use std::fmt;
 use std::marker::{Model, PhantomData};
 
 /// The items of a list in order. Contracts see the octets of the items that are left.
+///
+/// Count the items by `saturating_add` in a loop, since `count()` asks its caller for a bound.
 #[derive(Drop)]
-#[derive_where(Debug)]
 pub struct ItemIter<'a, T: ListType> {
     rest: &'a [u8],
-    #[derive_where(skip)]
     kind: PhantomData<T>,
 }
 
@@ -57,6 +58,13 @@ impl<'a, T: ListItems<'a>> Iterator for ItemIter<'a, T> {
 
     fn size_hint(&self) -> (usize, Option<usize>) {
         (0, None)
+    }
+}
+
+/// The name of the value, and the octets of the items that are left.
+impl<'a, T: ListType> fmt::Debug for ItemIter<'a, T> {
+    fn fmt<W: fmt::Write>(&self, f: &mut fmt::Formatter<W>) -> fmt::Result {
+        f.debug_tuple(T::NAME).field(&self.rest).finish()
     }
 }
 

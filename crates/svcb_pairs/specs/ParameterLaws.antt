@@ -1,4 +1,4 @@
--- Octets are service parameters in one way.
+-- Octets are service parameters in one way. Types of the crates above that hold such octets cite it for their models.
 use Rattle.std.specs.Prelude.{ℕ, ◌+◌, List, [], ◌∷◌}
 use Rattle.std.specs.Coded.{Unit-prop}
 use Rattle.std.proofs.Props.{props}

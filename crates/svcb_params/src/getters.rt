@@ -1,6 +1,6 @@
-//! The values of the types that have a key of their own, each read from the octets under its key. There is none where the
-//! key is absent, and none where the octets are not wholly a value of the type, whatever the octets under other keys are.
-//! No memory is taken.
+//! The values of the types that have a key of their own, each read from the octets under its key. There is none where
+//! the key is absent, and none where the octets are not wholly a value of the type, whatever the octets under other
+//! keys are. No memory is taken.
 
 ghost use Rattle.std.specs.Prelude.{◌≡◌, is_some};
 ghost use Rattle.svcb_spec.specs.Values as values;
@@ -16,6 +16,8 @@ use svcb_value::{DohPathRef, EchRef, NoDefaultAlpn, Ohttp, Port};
 
 impl<'a> SvcParamsRef<'a> {
     /// The keys that a client must know (RFC 9460, section 8).
+    ///
+    /// None: the key is absent, or the octets under it are not wholly such a value.
     pub fn mandatory(&self) -> Option<MandatoryRef<'a>>
         ensures { IsTypedAt 0 (seen_params self.now) result
             (λ view. values.Mandatory (numbers view.slice.now)) }
@@ -24,6 +26,8 @@ impl<'a> SvcParamsRef<'a> {
     }
 
     /// The protocols that the server speaks (RFC 9460, section 7.1).
+    ///
+    /// None: the key is absent, or the octets under it are not wholly such a value.
     pub fn alpn(&self) -> Option<AlpnRef<'a>>
         ensures { IsTypedAt 1 (seen_params self.now) result
             (λ view. values.Alpn (protocols view.slice.now)) }
@@ -32,6 +36,8 @@ impl<'a> SvcParamsRef<'a> {
     }
 
     /// Whether the protocols of `alpn` are the only ones (RFC 9460, section 7.1.1).
+    ///
+    /// False: the key is absent, or octets stand under it.
     pub fn no_default_alpn(&self) -> bool
         ensures { result ≡ is_some (typed_at 2 (seen_params self.now)) }
     {
@@ -39,6 +45,8 @@ impl<'a> SvcParamsRef<'a> {
     }
 
     /// The port to use (RFC 9460, section 7.2).
+    ///
+    /// None: the key is absent, or the octets under it are not wholly such a value.
     pub fn port(&self) -> Option<Port>
         ensures { IsTypedAt 3 (seen_params self.now) result values.Port }
     {
@@ -46,6 +54,8 @@ impl<'a> SvcParamsRef<'a> {
     }
 
     /// Addresses of IPv4 (RFC 9460, section 7.3).
+    ///
+    /// None: the key is absent, or the octets under it are not wholly such a value.
     pub fn ipv4hint(&self) -> Option<Ipv4HintRef<'a>>
         ensures { IsTypedAt 4 (seen_params self.now) result
             (λ view. values.Ipv4Hint (parts 4 view.slice.now)) }
@@ -54,6 +64,8 @@ impl<'a> SvcParamsRef<'a> {
     }
 
     /// The configuration of Encrypted ClientHello (RFC 9460, section 14.3.2).
+    ///
+    /// None: the key is absent, or the octets under it are not wholly such a value.
     pub fn ech(&self) -> Option<EchRef<'a>>
         ensures { IsTypedAt 5 (seen_params self.now) result (λ view. values.Ech view.slice.now) }
     {
@@ -61,6 +73,8 @@ impl<'a> SvcParamsRef<'a> {
     }
 
     /// Addresses of IPv6 (RFC 9460, section 7.3).
+    ///
+    /// None: the key is absent, or the octets under it are not wholly such a value.
     pub fn ipv6hint(&self) -> Option<Ipv6HintRef<'a>>
         ensures { IsTypedAt 6 (seen_params self.now) result
             (λ view. values.Ipv6Hint (parts 16 view.slice.now)) }
@@ -69,6 +83,8 @@ impl<'a> SvcParamsRef<'a> {
     }
 
     /// The path of DNS over HTTPS (RFC 9461, section 5).
+    ///
+    /// None: the key is absent, or the octets under it are not wholly such a value.
     pub fn dohpath(&self) -> Option<DohPathRef<'a>>
         ensures { IsTypedAt 7 (seen_params self.now) result
             (λ view. values.DohPath view.slice.now) }
@@ -77,13 +93,17 @@ impl<'a> SvcParamsRef<'a> {
     }
 
     /// Whether the service is reached by Oblivious HTTP (RFC 9540, section 4).
+    ///
+    /// False: the key is absent, or octets stand under it.
     pub fn ohttp(&self) -> bool
         ensures { result ≡ is_some (typed_at 8 (seen_params self.now)) }
     {
         first_of::<Ohttp>(*self).is_some()
     }
 
-    /// The groups of TLS that the server supports.
+    /// The groups for key exchange in TLS that the server supports (IANA's registry).
+    ///
+    /// None: the key is absent, or the octets under it are not wholly such a value.
     pub fn tls_supported_groups(&self) -> Option<TlsSupportedGroupsRef<'a>>
         ensures { IsTypedAt 9 (seen_params self.now) result
             (λ view. values.TlsSupportedGroups (numbers view.slice.now)) }
@@ -94,6 +114,8 @@ impl<'a> SvcParamsRef<'a> {
 
 impl SvcParams {
     /// The keys that a client must know (RFC 9460, section 8).
+    ///
+    /// None: the key is absent, or the octets under it are not wholly such a value.
     pub fn mandatory(&self) -> Option<MandatoryRef<'_>>
         ensures { IsTypedAt 0 self.now result (λ view. values.Mandatory (numbers view.slice.now)) }
     {
@@ -101,6 +123,8 @@ impl SvcParams {
     }
 
     /// The protocols that the server speaks (RFC 9460, section 7.1).
+    ///
+    /// None: the key is absent, or the octets under it are not wholly such a value.
     pub fn alpn(&self) -> Option<AlpnRef<'_>>
         ensures { IsTypedAt 1 self.now result (λ view. values.Alpn (protocols view.slice.now)) }
     {
@@ -108,6 +132,8 @@ impl SvcParams {
     }
 
     /// Whether the protocols of `alpn` are the only ones (RFC 9460, section 7.1.1).
+    ///
+    /// False: the key is absent, or octets stand under it.
     pub fn no_default_alpn(&self) -> bool
         ensures { result ≡ is_some (typed_at 2 self.now) }
     {
@@ -115,6 +141,8 @@ impl SvcParams {
     }
 
     /// The port to use (RFC 9460, section 7.2).
+    ///
+    /// None: the key is absent, or the octets under it are not wholly such a value.
     pub fn port(&self) -> Option<Port>
         ensures { IsTypedAt 3 self.now result values.Port }
     {
@@ -122,6 +150,8 @@ impl SvcParams {
     }
 
     /// Addresses of IPv4 (RFC 9460, section 7.3).
+    ///
+    /// None: the key is absent, or the octets under it are not wholly such a value.
     pub fn ipv4hint(&self) -> Option<Ipv4HintRef<'_>>
         ensures { IsTypedAt 4 self.now result (λ view. values.Ipv4Hint (parts 4 view.slice.now)) }
     {
@@ -129,6 +159,8 @@ impl SvcParams {
     }
 
     /// The configuration of Encrypted ClientHello (RFC 9460, section 14.3.2).
+    ///
+    /// None: the key is absent, or the octets under it are not wholly such a value.
     pub fn ech(&self) -> Option<EchRef<'_>>
         ensures { IsTypedAt 5 self.now result (λ view. values.Ech view.slice.now) }
     {
@@ -136,6 +168,8 @@ impl SvcParams {
     }
 
     /// Addresses of IPv6 (RFC 9460, section 7.3).
+    ///
+    /// None: the key is absent, or the octets under it are not wholly such a value.
     pub fn ipv6hint(&self) -> Option<Ipv6HintRef<'_>>
         ensures { IsTypedAt 6 self.now result (λ view. values.Ipv6Hint (parts 16 view.slice.now)) }
     {
@@ -143,6 +177,8 @@ impl SvcParams {
     }
 
     /// The path of DNS over HTTPS (RFC 9461, section 5).
+    ///
+    /// None: the key is absent, or the octets under it are not wholly such a value.
     pub fn dohpath(&self) -> Option<DohPathRef<'_>>
         ensures { IsTypedAt 7 self.now result (λ view. values.DohPath view.slice.now) }
     {
@@ -150,13 +186,17 @@ impl SvcParams {
     }
 
     /// Whether the service is reached by Oblivious HTTP (RFC 9540, section 4).
+    ///
+    /// False: the key is absent, or octets stand under it.
     pub fn ohttp(&self) -> bool
         ensures { result ≡ is_some (typed_at 8 self.now) }
     {
         self.for_slice().ohttp()
     }
 
-    /// The groups of TLS that the server supports.
+    /// The groups for key exchange in TLS that the server supports (IANA's registry).
+    ///
+    /// None: the key is absent, or the octets under it are not wholly such a value.
     pub fn tls_supported_groups(&self) -> Option<TlsSupportedGroupsRef<'_>>
         ensures { IsTypedAt 9 self.now result
             (λ view. values.TlsSupportedGroups (numbers view.slice.now)) }

@@ -44,15 +44,16 @@ impl<'a> Model for SvcParamsOverlay<'a> {
 impl<'a> SvcParamsOverlay<'a> {
     /// An overlay of parameters, and its limit in octets, which is below 2^31.
     ///
-    /// `ShortBuf`: the parameters have more octets in wire form than the limit, which is tested before any memory is taken.
-    /// `NoMemory`: the memory for the places of their values isn't there.
+    /// `ShortBuf`: the parameters have more octets in wire form than the limit, which is tested before any memory is
+    /// taken. `NoMemory`: the memory for the places of their values isn't there.
     pub fn new(
         alloc: Global,
         params: &SvcParamsRef<'a>,
         limit: usize,
     ) -> Result<SvcParamsOverlay<'a>, BufError>
         requires { limit < 2 ^ 31 }
-        ensures short { IsErrOf result buf.ShortBuf ↔ (limit < length (wire (seen_params params.now))) }
+        ensures short { IsErrOf result buf.ShortBuf
+            ↔ (limit < length (wire (seen_params params.now))) }
         ensures builder { IfOk result (λ overlay. overlay.builder
             ≡ record { pairs = seen_params params.now; limit = limit }) }
         ensures kept { IfOk result (λ overlay. overlay.kept ≡ 0) }
@@ -65,7 +66,8 @@ impl<'a> SvcParamsOverlay<'a> {
         Ok(SvcParamsOverlay { read, pairs })
     }
 
-    /// The count of octets in the overlay's own buffer: those of the values that were added, and of no value that was read.
+    /// The count of octets in the overlay's own buffer: those of the values that were added, and of no value that was
+    /// read.
     pub fn kept(&self) -> usize
         ensures { result ≡ self.now.kept }
     {
@@ -84,9 +86,12 @@ impl<'a> SvcParamsOverlay<'a> {
 
     /// Adds a value under its key.
     ///
-    /// `DuplicateKey`: the key has a value already, read or added, which stays. `ShortBuf`: the key is new, and with the
-    /// value the parameters would have more octets in wire form than the limit. `NoMemory`: want of memory, which may come
-    /// in place of any answer. A refused push changes nothing.
+    /// `DuplicateKey`: the key has a value already, read or added, which stays. `ShortBuf`: the key is new, and with
+    /// the value the parameters would have more octets in wire form than the limit. `NoMemory`: want of memory, which
+    /// may come in place of any answer. A refused push changes nothing.
+    ///
+    /// Views are values too. So octets at hand are pushed without an allocation of one's own as
+    /// `overlay.push(&UnknownSvcParamRef::new(key, octets)?)?`, where the key may also have a type.
     pub fn push<V: ComposeSvcParamValue>(&mut self, value: &V) -> Result<(), PushError>
         ensures pushes { Pushes self.old.builder self.new.builder
             (V.key_of value.now) (V.octets value.now) result (IsPushAnswer result) }

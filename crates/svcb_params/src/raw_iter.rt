@@ -12,6 +12,8 @@ use std::marker::Model;
 use svcb_value::UnknownSvcParamRef;
 
 /// All parameters by ascending keys, each as a key and octets. Contracts see the pairs that are left.
+///
+/// Count the items by `saturating_add` in a loop, since `count()` asks its caller for a bound.
 #[derive(Clone, Debug, Drop)]
 pub struct RawIter<'a> {
     rest: SvcParamsRef<'a>,

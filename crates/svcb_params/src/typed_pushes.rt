@@ -71,8 +71,8 @@ impl SvcParamsBuilder {
 
     /// Adds `dohpath` (RFC 9461, section 5).
     ///
-    /// `LongSvcParam`: the template has more than 65,535 octets. Else refused as [`push`](Self::push) is. The builder then
-    /// stays.
+    /// `LongSvcParam`: the template has more than 65,535 octets. Else refused as [`push`](Self::push) is. The builder
+    /// then stays.
     pub fn dohpath(&mut self, template: &str) -> Result<(), PushValueError>
         ensures { PushesValue self.old self.new (values.DohPath template.now) result
             (IsPushValueAnswer result (len_fault (length template.now))) }
@@ -83,7 +83,8 @@ impl SvcParamsBuilder {
 
     /// Adds `mandatory` (RFC 9460, section 8), two octets a key.
     ///
-    /// `LongSvcParam`: there are more than 32,767 keys. Else refused as [`push`](Self::push) is. The builder then stays.
+    /// `LongSvcParam`: there are more than 32,767 keys. Else refused as [`push`](Self::push) is. The builder then
+    /// stays.
     pub fn mandatory(&mut self, keys: &[SvcParamKey]) -> Result<(), PushValueError>
         ensures { PushesValue self.old self.new (values.Mandatory keys.now) result
             (IsPushValueAnswer result (len_fault (length keys.now * 2))) }
@@ -116,10 +117,10 @@ impl SvcParamsBuilder {
         Ok(())
     }
 
-    /// Adds `tls-supported-groups`, two octets a group.
+    /// Adds `tls-supported-groups` (IANA's registry), two octets a group.
     ///
-    /// `EmptyValue`: there are no groups. `LongSvcParam`: there are more than 32,767. Else refused as [`push`](Self::push)
-    /// is. The builder then stays.
+    /// `EmptyValue`: there are no groups. `LongSvcParam`: there are more than 32,767. Else refused as
+    /// [`push`](Self::push) is. The builder then stays.
     pub fn tls_supported_groups(&mut self, groups: &[u16]) -> Result<(), PushValueError>
         ensures { PushesValue self.old self.new (values.TlsSupportedGroups groups.now) result
             (IsPushValueAnswer result (groups_len_fault (length groups.now * 2))) }
@@ -131,8 +132,9 @@ impl SvcParamsBuilder {
     /// Adds `alpn` (RFC 9460, section 7.1), whose value is empty where there are no protocols.
     ///
     /// The first fault of the protocols in their order refuses them; want of memory may come before it.
-    /// `InvalidProtocol`: a name has no octets or more than 255. `LongSvcParam`: with this protocol and its octet of length
-    /// the value would have more than 65,535 octets. Else refused as [`push`](Self::push) is. The builder then stays.
+    /// `InvalidProtocol`: a name has no octets or more than 255. `LongSvcParam`: with this protocol and its octet of
+    /// length the value would have more than 65,535 octets. Else refused as [`push`](Self::push) is. The builder then
+    /// stays.
     pub fn alpn(&mut self, protocols: &[Octets]) -> Result<(), PushAlpnError>
         ensures { PushesValue self.old self.new (values.Alpn protocols.now) result
             (IsPushAlpnAnswer result (alpn_fault protocols.now)) }

@@ -28,10 +28,10 @@ use wire_base::ParseError;
 /// }
 /// ```
 ///
-/// These forms get a proof; `item?`, and a pattern such as `Ok(AllValuesRef::Port(port))` on the item itself, do not. An
-/// iterator of a view lasts as long as the view, so bind what `params()` of record data gives first:
-/// `let params = record.params();`. Count the items by `saturating_add` in a loop, since `count()` asks its caller for a
-/// bound.
+/// These forms get a proof; `item?`, and a pattern such as `Ok(AllValuesRef::Port(port))` on the item itself, do not.
+/// An iterator of a view lasts as long as the view, so bind what `params()` of record data gives first:
+/// `let params = record.params();`. Count the items by `saturating_add` in a loop, since `count()` asks its caller
+/// for a bound.
 #[derive(Drop)]
 #[derive_where(Clone, Debug)]
 pub struct ValueIter<'s, V> {

@@ -19,7 +19,7 @@ use crate::errors::RebuildError;
 use crate::replies::Replies;
 use crate::svcb_ref::SvcbRef;
 use crate::variant::SvcbVariant;
-use registry::ComposeSvcParamValue;
+use registry::{ComposeSvcParamValue, Integer};
 use std::alloc::Global;
 use svcb_params::{PushError, SvcParamsOverlay};
 use svcb_spec::Reply;
@@ -99,7 +99,7 @@ fn compose(
         ≡ rdata found.now.priority found.now.target.labels params.now.builder.pairs) }
 {
     let mut octets = Vec::with_capacity(alloc, len)?;
-    octets.extend_from_slice(&found.priority().to_be_bytes())?;
+    found.priority().compose(&mut octets)?;
     found.target().compose(&mut octets)?;
     params.compose(&mut octets)?;
     Ok(Octets::from_vec(octets))

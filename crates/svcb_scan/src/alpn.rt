@@ -30,7 +30,8 @@ pub(crate) fn scan_alpn(alloc: Global, text: &[u8]) -> Result<Alpn, ScanError>
 fn read_protocols(alloc: Global, text: &[u8]) -> Result<Vec<Octets>, ScanError>
     requires { 0 < length text.now }
     ensures answer { Answers (λ list. list.items) result (protocols_of text.now) }
-    ensures each { IfOk result (λ list. Each (λ protocol. IsProtocol (length protocol)) list.items) }
+    ensures each { IfOk result
+        (λ list. Each (λ protocol. IsProtocol (length protocol)) list.items) }
 {
     let mut items = SvcParamValueScanIter::from_slice(text);
     let mut protocols = Vec::new(alloc);
@@ -43,8 +44,8 @@ fn read_protocols(alloc: Global, text: &[u8]) -> Result<Vec<Octets>, ScanError>
     Ok(protocols)
 }
 
-/// The value of protocols. Refused, as `LongValue`, exactly where it has more than 65,535 octets, else for want of memory
-/// alone.
+/// The value of protocols. Refused, as `LongValue`, exactly where it has more than 65,535 octets, else for want of
+/// memory alone.
 fn build_alpn(alloc: Global, protocols: &[Octets]) -> Result<Alpn, ScanError>
     requires { Each (λ protocol. IsProtocol (length protocol)) protocols.now }
     ensures { Answers (λ value. value) result (short_value (values.Alpn protocols.now)) }

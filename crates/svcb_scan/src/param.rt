@@ -13,9 +13,9 @@ use std::alloc::Global;
 use svcb_text::AllValues;
 use text_spec::ScanError;
 
-/// The value that the octets of a token spell: a key, and behind an `=` the value's text, as `port=53` (RFC 9460, section
-/// 2.1). With no `=` the text has no octets. Behind a mnemonic stands a value of the key's type, as `alpn=h2`; behind
-/// `key` and a number stand any octets, as `key1=h2`.
+/// The value that the octets of a token spell: a key, and behind an `=` the value's text, as `port=53` (RFC 9460,
+/// section 2.1). With no `=` the text has no octets. Behind a mnemonic stands a value of the key's type, as
+/// `alpn=h2`; behind `key` and a number stand any octets, as `key1=h2`.
 ///
 /// `EmptyParam`: the token has no octets. `BadKeyChar`: its key has an octet other than `a` to `z`, `0` to `9` and `-`.
 /// `UnknownKey`: it names no key. Else by the first fault of the value's text, or for want of memory.
@@ -25,7 +25,7 @@ pub fn scan_param(alloc: Global, token: &[u8]) -> Result<AllValues, ScanError>
     if token.is_empty() {
         return Err(ScanError::EmptyParam);
     }
-    let (key, text) = split_param(token);
+    let (key, text) = split_at_equals(token);
     if !is_key_text(key) {
         return Err(ScanError::BadKeyChar);
     }
@@ -33,7 +33,7 @@ pub fn scan_param(alloc: Global, token: &[u8]) -> Result<AllValues, ScanError>
 }
 
 /// What stands before the first `=`, and what stands behind it.
-fn split_param(token: &[u8]) -> (&[u8], &[u8])
+fn split_at_equals(token: &[u8]) -> (&[u8], &[u8])
     ensures key { result.0.now ≡ key_text token.now }
     ensures value { result.1.now ≡ value_text token.now }
 {

@@ -15,7 +15,7 @@ use Rattle.svcb_spec.specs.Rebuilding.{reply_to, after, accept, Rebuilt, rebuild
 use Rattle.svcb_spec.proofs.WireLaws.{IsMap-insert}
 use Rattle.svcb_spec.proofs.ItemLaws.{small_octets}
 use Rattle.svcb_spec.proofs.ValueLaws.{key_of_small}
-use Rattle.svcb_spec.proofs.RecordLaws.{octets_of, read-rdata, one_record, IsRecord-read}
+use Rattle.svcb_spec.proofs.RecordLaws.{record_octets, read-rdata, one_record, IsRecord-read}
 
 -- ---- maps
 
@@ -136,12 +136,12 @@ accept-holds pairs limit (value ∷ values) =
 
 -- what is known of a result
 record IsDone (found : Record) (values : List Value) (limit : ℕ) (done : Rebuilt) : Type 0 where
-  few : length (octets_of (accepted found values limit)) < 65536
-  is : done ≡ record { octets = octets_of (accepted found values limit); replies = (accept found.pairs limit values).replies }
+  few : length (record_octets (accepted found values limit)) < 65536
+  is : done ≡ record { octets = record_octets (accepted found values limit); replies = (accept found.pairs limit values).replies }
 
 read_done : (found : Record) (values : List Value) (limit : ℕ) (done : Rebuilt) → rebuild_read found values limit ≡ Ok done → IsDone found values limit done
 read_done found values limit done is =
-    let few : length (octets_of (accepted found values limit)) < 65536 = grind (arith, nat_tests) in
+    let few : length (record_octets (accepted found values limit)) < 65536 = grind (arith, nat_tests) in
     record {
       few = few;
       is = grind (arith, nat_tests);
@@ -166,7 +166,7 @@ module _ (message : List ℕ) (start len : ℕ) (values : List Value) (limit : �
         fits = known.few;
       }
 
-  done_octets : done.octets ≡ octets_of (accepted found values limit)
+  done_octets : done.octets ≡ record_octets (accepted found values limit)
   done_octets = ap (λ (d : Rebuilt). d.octets) known.is
 
   -- what was rebuilt is read back
@@ -180,7 +180,7 @@ module _ (message : List ℕ) (start len : ℕ) (values : List Value) (limit : �
   rebuilt_again other within =
       let final = accepted found values limit in
       let e1 : nat_lt other (length (wire final.pairs)) ≡ false = grind (arith, nat_tests) in
-      let e2 : nat_lt 65535 (length (octets_of final)) ≡ false = (let few = known.few in grind (arith, nat_tests)) in
+      let e2 : nat_lt 65535 (length (record_octets final)) ≡ false = (let few = known.few in grind (arith, nat_tests)) in
       ap (λ r. rebuild_of r [] other) rebuilt_read_back
       ∙ rw (e1, e2) refl
       ∙ ap (λ (octets : List ℕ). Ok (record { octets = octets; replies = [] })) (sym done_octets)
@@ -194,5 +194,5 @@ canonical_form message start len values limit found done message' start' len' va
     let one = done_octets message start len values limit found done is in
     let two = done_octets message' start' len' values' limit' found' done' is' in (
       λ same. one_record _ _ (accepted_is message start len values limit found done is) (accepted_is message' start' len' values' limit' found' done' is') (sym one ∙ same ∙ two),
-      λ same. one ∙ ap octets_of same ∙ sym two,
+      λ same. one ∙ ap record_octets same ∙ sym two,
     )

@@ -15,11 +15,11 @@ use Rattle.svcb_spec.proofs.PairLaws.{pairs_at-step}
 use Rattle.svcb_spec.proofs.PairsBack.{drop-behind, number_at-be2, pairs_at-back}
 
 -- the octets of a record
-abbrev pub octets_of : Record → List ℕ
-octets_of found = rdata found.priority found.labels found.pairs
+abbrev pub record_octets : Record → List ℕ
+record_octets found = rdata found.priority found.labels found.pairs
 
-pub length-octets_of : (found : Record) → length (octets_of found) ≡ 2 + length (name_wire found.labels) + length (wire found.pairs)
-length-octets_of found = omega (arith, length-append (name_wire found.labels) (wire found.pairs))
+pub length-record_octets : (found : Record) → length (record_octets found) ≡ 2 + length (name_wire found.labels) + length (wire found.pairs)
+length-record_octets found = omega (arith, length-append (name_wire found.labels) (wire found.pairs))
 
 -- the tests of `read` for data that is read without a fault
 read_by : (message : List ℕ) (start len : ℕ) (name : NameRead) (pairs : Pairs) → len < 65536 → 2 ≤ len
@@ -34,16 +34,16 @@ read_by message start len name pairs few some name_is pairs_are all_few =
     rw (e1, e2, name_is, pairs_are, e3) refl
 
 -- the octets of a record are read as that record
-pub read-rdata : (found : Record) → IsRecord found → read (octets_of found) 0 (length (octets_of found)) ≡ Ok found
+pub read-rdata : (found : Record) → IsRecord found → read (record_octets found) 0 (length (record_octets found)) ≡ Ok found
 read-rdata found is =
-    let octets : List ℕ = octets_of found in
+    let octets : List ℕ = record_octets found in
     let name : List ℕ = name_wire found.labels in
     let end : ℕ = 0 + length octets in
     let in_order : wire found.pairs ≡ pairs_wire found.pairs = wire-pairs found.pairs is.is_map in
     let all : drop 0 octets ≡ be2 found.priority ++ (name ++ wire found.pairs) = refl in
     let at_name : drop (0 + 2) octets ≡ name ++ wire found.pairs = drop-behind octets (be2 found.priority) (name ++ wire found.pairs) 0 all in
     let at_pairs : drop (2 + length name) octets ≡ pairs_wire found.pairs ++ [] = drop-behind octets name (wire found.pairs) 2 at_name ∙ in_order ∙ sym (append-nil (pairs_wire found.pairs)) in
-    let long : length octets ≡ 2 + length name + length (wire found.pairs) = length-octets_of found in
+    let long : length octets ≡ 2 + length name + length (wire found.pairs) = length-record_octets found in
     let as_long : length (wire found.pairs) ≡ length (pairs_wire found.pairs) = ap length in_order in
     let name_is = name_at-wire found.labels octets (wire found.pairs) end 2 0 0 is.labels (omega arith) at_name in
     let pairs_are = pairs_at-back octets [] found.pairs end (2 + length name) None at_pairs (omega arith) is.is_map in
@@ -55,9 +55,9 @@ same_record : (x y : Record) (r : Result Record Fault) → r ≡ Ok x → r ≡ 
 same_record x y r is_x is_y = cc
 
 -- records with the same octets are one
-pub one_record : (a b : Record) → IsRecord a → IsRecord b → octets_of a ≡ octets_of b → a ≡ b
+pub one_record : (a b : Record) → IsRecord a → IsRecord b → record_octets a ≡ record_octets b → a ≡ b
 one_record a b is_a is_b same =
-    same_record a b (read (octets_of a) 0 (length (octets_of a))) (read-rdata a is_a)
+    same_record a b (read (record_octets a) 0 (length (record_octets a))) (read-rdata a is_a)
     (ap (λ octets. read octets 0 (length octets)) same ∙ read-rdata b is_b)
 
 -- ---- what was read
@@ -71,7 +71,7 @@ pub record ReadParts (message : List ℕ) (start len : ℕ) (found : Record) : T
   pub pairs_are : pairs_at message (start + len) name.next None ≡ Ok found.pairs
   pub priority : found.priority ≡ number_at message start
   pub labels : found.labels ≡ name.labels
-  pub all_few : length (octets_of found) < 65536
+  pub all_few : length (record_octets found) < 65536
 
 module _ (message : List ℕ) (start len : ℕ) (found : Record) where
   abbrev end : ℕ
@@ -86,7 +86,7 @@ module _ (message : List ℕ) (start len : ℕ) (found : Record) where
       let some : 2 ≤ len = grind (arith, nat_tests) in
       let same : found ≡ record { priority = number_at message start; labels = name.labels; pairs = pairs } = grind (arith, nat_tests) in
       let all_few : 2 + length (name_wire name.labels) + length (wire pairs) < 65536 = grind (arith, nat_tests) in
-      let long = length-octets_of (record { priority = number_at message start; labels = name.labels; pairs = pairs }) in
+      let long = length-record_octets (record { priority = number_at message start; labels = name.labels; pairs = pairs }) in
       rw same (record {
         few = few;
         some = some;

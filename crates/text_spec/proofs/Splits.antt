@@ -1,4 +1,4 @@
--- The text of a document has exactly the document's tokens.
+-- The text of a document has exactly the document's tokens. Offered to the crates above: `layout_splits`.
 use Rattle.std.proofs.Common.{◌≡◌, ◌<◌, ◌∙◌, sym, ap, subst, refl, ℕ, zero, suc, ◌+◌, ◌-◌, Bool, true, false, List, [], ◌∷◌, ◌++◌, length, map, Option, Some, None, arith, add-one, append_assoc}
 use Rattle.std.specs.Prelude.{IsTrue, nat_lt, ◌==◌, if◌then◌else◌}
 use Rattle.std.specs.List.{flat_map}

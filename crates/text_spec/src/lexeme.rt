@@ -3,7 +3,9 @@
 /// An octet of a token, and whether it was written behind a backslash.
 #[derive(Clone, Copy, Debug, PartialEq, Eq)]
 pub struct Symbol {
+    /// The octet that the symbol stands for.
     pub octet: u8,
+    /// Whether a backslash stands before it.
     pub escaped: bool,
 }
 
@@ -32,6 +34,7 @@ pub struct Place {
 /// What the front of a text means.
 #[derive(Clone, Copy, Debug, PartialEq, Eq)]
 pub struct Front {
+    /// What stands at the front.
     pub lexeme: Lexeme,
     /// The place behind the lexeme.
     pub place: Place,

@@ -51,7 +51,8 @@ fn cmp_from_last(
 ) -> Ordering
     requires { length labels ≡ length others }
     ensures { result ≡ ordering_then
-        (slice_cmp (slice_cmp nat_cmp) (from_last labels.entry) (from_last others.entry)) count_order }
+        (slice_cmp (slice_cmp nat_cmp) (from_last labels.entry) (from_last others.entry))
+        count_order }
 {
     let mut order = count_order;
     for (label, other) in labels.zip(others) {

@@ -58,6 +58,18 @@ impl Rtype {
     pub fn from_int(value: u16) -> Rtype
         ensures { result ≡ value }
     {
+        // each constant is the type with the number of its registry entry
+        prove!(Rtype::A.0 == 1);
+        prove!(Rtype::AAAA.0 == 28);
+        prove!(Rtype::SSHFP.0 == 44);
+        prove!(Rtype::IPSECKEY.0 == 45);
+        prove!(Rtype::TLSA.0 == 52);
+        prove!(Rtype::CDS.0 == 59);
+        prove!(Rtype::CDNSKEY.0 == 60);
+        prove!(Rtype::OPENPGPKEY.0 == 61);
+        prove!(Rtype::ZONEMD.0 == 63);
+        prove!(Rtype::SVCB.0 == 64);
+        prove!(Rtype::HTTPS.0 == 65);
         Rtype(value)
     }
 
@@ -68,18 +80,3 @@ impl Rtype {
         self.0
     }
 }
-
-// Each type has the number of its registry entry.
-const _: () = prove!(
-    Rtype::A.0 == 1
-        && Rtype::AAAA.0 == 28
-        && Rtype::SSHFP.0 == 44
-        && Rtype::IPSECKEY.0 == 45
-        && Rtype::TLSA.0 == 52
-        && Rtype::CDS.0 == 59
-        && Rtype::CDNSKEY.0 == 60
-        && Rtype::OPENPGPKEY.0 == 61
-        && Rtype::ZONEMD.0 == 63
-        && Rtype::SVCB.0 == 64
-        && Rtype::HTTPS.0 == 65
-);

@@ -7,7 +7,7 @@ use std::fmt;
 
 /// Octets in base16 (RFC 4648, section 8), printed without a copy: with the digits `A` to `F` where `is_upper` is true,
 /// and with `a` to `f` elsewhere.
-#[derive(Clone, Copy)]
+#[derive(Clone, Copy, Debug)]
 pub struct Base16<'a> {
     /// The octets.
     pub octets: &'a [u8],

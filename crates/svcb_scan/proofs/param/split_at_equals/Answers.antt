@@ -1,7 +1,7 @@
 use Rattle.std.proofs.Common.{◌+◌, ◌∙◌, arith}
 use Rattle.std.proofs.lemmas.List.{take_rest}
 use Rattle.svcb_scan.proofs.KeyLemmas.{key_text-at, value_text-at, key_text-all, value_text-all}
-use Rattle.svcb_scan.proofs.param.split_param.Goals as goal
+use Rattle.svcb_scan.proofs.param.split_at_equals.Goals as goal
 
 pub returns-then-c-eq61-clause-key : goal.returns-then-c-eq61-clause-key
 returns-then-c-eq61-clause-key c = key_text-at c.loop-i.i c.args.token.now c.loop-i.invariant (omega arith) c.if-c-eq61.true
