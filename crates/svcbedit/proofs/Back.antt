@@ -1,5 +1,5 @@
 -- What `show` writes is scanned as the data that was read.
-use Rattle.std.proofs.Common.{◌≡◌, ℕ, ◌-◌, ◌^◌, zero-add, Bool, ◌<◌, ◌≤◌, true, false, cond, List, [], ◌∷◌, ◌++◌, length, length-append, Option, Some, None, Result, Ok, Err, refl, inl, inr, sym, subst, ap, ◌∙◌, arith, ◌+◌, length-take}
+use Rattle.std.proofs.Common.{◌≡◌, ℕ, ◌-◌, Bool, ◌<◌, ◌≤◌, true, false, cond, List, [], ◌∷◌, ◌++◌, length, length-append, Option, Some, None, Result, Ok, Err, refl, inl, inr, sym, subst, ap, ◌∙◌, arith, ◌+◌, length-take}
 use Rattle.std.proofs.lemmas.Bool.{cases_eq, cases_lt}
 use Rattle.std.proofs.lemmas.Bool.Decides.{nat_tests}
 use Rattle.std.proofs.lemmas.List.Elements.{All-head, All-tail}
@@ -22,32 +22,25 @@ use Rattle.printed_spec.specs.Laws.{AreOctets}
 use Rattle.printed_spec.specs.Addresses.{ipv4_text, ipv6_text}
 use Rattle.text_spec.specs.declared.errors.ScanError.{ScanError}
 use Rattle.text_spec.specs.declared.lexeme.Symbol.{Symbol}
-use Rattle.text_spec.specs.Scanning.{Scanned, scan_then, is_marked, done}
+use Rattle.text_spec.specs.Scanning.{Scanned}
 use Rattle.text_spec.specs.Tokens.{tokens_in}
 use Rattle.text_spec.proofs.Again.{has_tokens}
-use Rattle.dns_text.specs.Rows.{number_below, name, rest_base64}
-use Rattle.param_text_spec.specs.ParamTexts.{params}
 use Rattle.association_spec.specs.Rows as rows
-use Rattle.association_spec.specs.Rows.{Row, Data, sshfp, tlsa, cds, cdnskey, zonemd}
+use Rattle.association_spec.specs.Rows.{Row, Data, sshfp, tlsa, cds, cdnskey, openpgpkey, zonemd}
 use Rattle.association_spec.specs.Wire.{reaching, read_data}
-use Rattle.association_spec.specs.Texts.{scan_data, scan_last, data_printed}
-use Rattle.association_spec.specs.Ipseckeys as ipseckeys
+use Rattle.association_spec.specs.Texts.{data_printed}
 use Rattle.association_spec.specs.Ipseckeys.{IsAddress}
 use Rattle.association_spec.specs.IpseckeyWire.{ipseckey_read}
-use Rattle.association_spec.specs.IpseckeyTexts.{scan_ipseckey, scan_gateway, complete, ipseckey_printed}
-use Rattle.association_laws.specs.Laws.{IsTextOf, IsRow, TypesAreRows, ReadComposedBack, DataTextReadBack, IpseckeyComposedBack, IpseckeyTextReadBack}
-use Rattle.rdata_text_spec.specs.DataTexts.{svcb_data}
-use Rattle.rdata_text_spec.specs.DataTexts as svcb
+use Rattle.association_laws.specs.Laws.{IsTextOf, ReadComposedBack, IpseckeyComposedBack}
 use Rattle.rdata_text_laws.specs.Laws.{IsData, ReadIsData}
-use Rattle.rdata_text_laws.proofs.DataTexts.{text_again}
 use Rattle.rdata_text_laws.proofs.Lines.{line_again}
 use Rattle.text_len_laws.specs.Laws.{DataLineFits}
 use Rattle.text_len_laws.proofs.Addresses.{ipv4-length, ipv6-length}
 use Rattle.record_len_laws.specs.Laws.{LineFits, TypesLinesFit, IpseckeyLineFits, UnknownTextByOctets}
-use Rattle.union_spec.specs.RecordData.{RecordData, A, Aaaa, Sshfp, Ipseckey, Tlsa, Cds, Cdnskey, Zonemd, Svcb, Https, Unknown}
+use Rattle.union_spec.specs.RecordData.{RecordData, A, Aaaa, Sshfp, Ipseckey, Tlsa, Cds, Cdnskey, Openpgpkey, Zonemd, Svcb, Https, Unknown, rtype_of}
 use Rattle.union_spec.specs.Reading.{read_as}
 use Rattle.union_spec.specs.Texts.{union_scan, union_printed}
-use Rattle.union_laws.specs.Laws.{ATextReadBack, AaaaTextReadBack, UnknownTextReadBack}
+use Rattle.union_laws.specs.Laws.{IsUnionData, UnionTextReadBack}
 use Rattle.devices.specs.declared.transfer.TheConstants.{MAX_INPUT}
 use Rattle.svcbedit.specs.Commands.{answer_of, reads, answer_to, due}
 use Rattle.svcbedit.specs.Laws.{hexadecimal, due_to_show, due_to_scan, ShownIsScannedBack, TypesAreScannedBack, AllDataBack}
@@ -61,7 +54,6 @@ use Rattle.svcbedit.specs.Show.{second_fault, only_line, spelled_octets, whole_m
 use Rattle.svcbedit.specs.declared.spelling.InputFault.{InputFault}
 use Rattle.svcbedit.specs.declared.words.Command.{Command}
 use Rattle.svcbedit.specs.declared.words.Command.TheVariants.{Show, Scan}
-use Rattle.svcbedit.proofs.Fields.{not_below, number_unmarked, numbers_unmarked, text_under}
 use Rattle.svcbedit.proofs.ReadData.{AreSmall, octets_from, label_octets, rdata_small}
 
 -- ---- inputs that aren't too long
@@ -94,9 +86,10 @@ shown_short rtype input answer is good = elim (cases_lt MAX_INPUT (length input)
 
 -- ---- texts
 
--- the text of data is scanned as the data, and its line isn't too long
-record IsShortText (rtype : ℕ) (found : RecordData) : Type 0 where
-  is_text : IsTextOf (union_scan rtype) (union_printed found) found
+-- the data of a type number, whose line isn't too long
+record IsShortData (rtype : ℕ) (found : RecordData) : Type 0 where
+  number : rtype_of found ≡ rtype
+  is_data : IsUnionData found
   fits : length (report.line (union_printed found)) < 16777216
 
 -- the line of a text is scanned as the text is
@@ -110,19 +103,20 @@ line_scanned rtype text found is =
     ∙ ap (λ (ts : List (List Symbol)). (union_scan rtype ts 0).outcome) read.1
     ∙ ap (λ (scanned : Scanned RecordData). scanned.outcome) (is.scanned tokens is.has.1)
 
-scanned_back : (rtype : ℕ) (found : RecordData) (text : List ℕ) → IsShortText rtype found → text ≡ report.line (union_printed found)
+scanned_back : UnionTextReadBack → (rtype : ℕ) (found : RecordData) (text : List ℕ) → IsShortData rtype found → text ≡ report.line (union_printed found)
     → due_to_scan rtype text ≡ Some (report.done (hexadecimal found))
 unfolding answer_of
-scanned_back rtype found text is text_is =
-    scan_due rtype text _ (ap (answer_of (Scan rtype)) text_is ∙ ap data_scanned (line_scanned rtype (union_printed found) found is.is_text))
+scanned_back texts rtype found text is text_is =
+    let is_text = subst (λ n. IsTextOf (union_scan n) (union_printed found) found) is.number (texts found is.is_data) in
+    scan_due rtype text _ (ap (answer_of (Scan rtype)) text_is ∙ ap data_scanned (line_scanned rtype (union_printed found) found is_text))
     (let fits = is.fits in subst (λ (line : List ℕ). length line ≤ MAX_INPUT) (sym text_is) (omega arith))
 
 -- ---- wherever `show` writes a text
 
--- the text of what is read under a type number is scanned under that number
-abbrev IsWrittenBack : ℕ → Type 0
-IsWrittenBack rtype = (octets : List ℕ) (found : RecordData) → AreSmall octets → data_in rtype octets ≡ Ok found
-    → IsShortText rtype found
+-- what is read under a type number is data of it, whose line isn't too long
+abbrev IsReadShort : ℕ → Type 0
+IsReadShort rtype = (octets : List ℕ) (found : RecordData) → AreSmall octets → data_in rtype octets ≡ Ok found
+    → IsShortData rtype found
 
 read_shown : (r : Result RecordData Fault) → (data_shown r).status ≡ 0 → (found : RecordData) × (r ≡ Ok found) × (data_shown r ≡ report.done (union_printed found))
 read_shown (Ok found) is = (found, refl, refl)
@@ -150,26 +144,29 @@ spelled_small : (all : List (List ℕ)) (octets : List ℕ) → only_line all �
 spelled_small all octets is =
     hexadecimal_small (slice_get all 0) octets (some_needed (option_and_then hexadecimal_octets (slice_get all 0)) (second_fault all) octets is)
 
-shown_back : (rtype : ℕ) → IsWrittenBack rtype → ShownIsScannedBack rtype
+shown_back : UnionTextReadBack → (rtype : ℕ) → IsReadShort rtype → ShownIsScannedBack rtype
 unfolding answer_of
-shown_back rtype written input answer due_is good =
+shown_back texts rtype short input answer due_is good =
     let answer_is : shown rtype input ≡ answer = shown_short rtype input answer due_is good in
-    let is : (shown rtype input).status ≡ 0 = ap (λ (a : report.Answer). a.status) answer_is ∙ good in
-    let given = spelled_read rtype (spelled_octets input) is in
+    let shows : (shown rtype input).status ≡ 0 = ap (λ (a : report.Answer). a.status) answer_is ∙ good in
+    let given = spelled_read rtype (spelled_octets input) shows in
     let octets = given.0 in
     let read = read_shown (data_in rtype octets) given.2 in
     let found = read.0 in
-    let is_text = written octets found (spelled_small (lines input) octets given.1) read.1 in
+    let is = short octets found (spelled_small (lines input) octets given.1) read.1 in
     let text : shown rtype input ≡ report.done (union_printed found) = given.3 ∙ read.2 in
     record {
       octets = octets;
       found = found;
       spelled = given.1;
       read = read.1;
-      scanned = scanned_back rtype found answer.report is_text (ap (λ (a : report.Answer). a.report) (sym answer_is ∙ text));
+      scanned = scanned_back texts rtype found answer.report is (ap (λ (a : report.Answer). a.report) (sym answer_is ∙ text));
     }
 
 -- ---- what is read
+
+not_below : (n : ℕ) → nat_lt n n ≡ false
+not_below n = grind (arith, nat_tests)
 
 -- what is read to the end
 whole_read : {V : Type 0} (type : V → RecordData) (end : ℕ) (r : Result V Fault) (found : RecordData)
@@ -190,110 +187,53 @@ part_read : {V : Type 0} (type : V → RecordData) (end : ℕ) (r : Result (Data
 part_read type end (Err fault) found is = absurd cc
 part_read type end (Ok held) found is = (held, refl, in_part (nat_lt held.next end) (type held.value) found is)
 
--- a type of one form, the first of whose fields is a number
-module _ (composed : ReadComposedBack) (texts : DataTextReadBack) where
-  field_data : (row : Row) (octets : List ℕ) (held : Data) → AreSmall octets → read_data row (left (whole_message octets)) ≡ Ok held → rows.IsData row held
-  field_data row octets held small read =
-      (composed row (left (whole_message octets)) held (label_octets octets 0 (length octets) (octets_from octets small)) read).0
+-- a type of one form
+module _ (composed : ReadComposedBack) (row : Row) (fits : LineFits row) (type : Data → RecordData) where
+  fields_read : (octets : List ℕ) (found : RecordData) → AreSmall octets
+      → wholly_read (length octets) (read_as type (reaching (length octets) (read_data row (left (whole_message octets))))) ≡ Ok found
+      → (held : Data) × rows.IsData row held × (length (report.line (data_printed row held)) < 16777216) × (found ≡ type held)
+  fields_read octets found small is =
+      let held = whole_read type (length octets) (read_data row (left (whole_message octets))) found is in
+      let is_data = (composed row (left (whole_message octets)) held.0 (label_octets octets 0 (length octets) (octets_from octets small)) held.1).0 in
+      (held.0, is_data, fits held.0 is_data, held.2)
 
-  field_text : (row : Row) → IsRow row → (octets : List ℕ) (held : Data) → AreSmall octets → read_data row (left (whole_message octets)) ≡ Ok held
-      → IsTextOf (scan_data row) (data_printed row held) held
-  field_text row is_row octets held small read =
-      texts row is_row held (field_data row octets held small read)
+module _ (composed : ReadComposedBack) (fits : TypesLinesFit) where
+  sshfp_short : IsReadShort 44
+  sshfp_short octets found small is =
+      let held = fields_read composed sshfp fits.sshfp_fits Sshfp octets found small is in
+      rw held.3 (record { number = refl; is_data = held.1; fits = held.2 })
 
-  sshfp_back : IsRow sshfp → LineFits sshfp → IsWrittenBack 44
-  sshfp_back is_row fits octets found small is =
-      let held = whole_read Sshfp (length octets) (read_data sshfp (left (whole_message octets))) found is in
-      rw held.2 (record {
-        is_text = text_under 44 Sshfp (scan_data sshfp) (λ tokens. refl) (data_printed sshfp held.0) held.0
-            (field_text sshfp is_row octets held.0 small held.1) (λ tokens scans. numbers_unmarked sshfp.fields (scan_last sshfp) tokens held.0 (length tokens) refl scans);
-        fits = fits held.0 (field_data sshfp octets held.0 small held.1);
-      })
+  tlsa_short : IsReadShort 52
+  tlsa_short octets found small is =
+      let held = fields_read composed tlsa fits.tlsa_fits Tlsa octets found small is in
+      rw held.3 (record { number = refl; is_data = held.1; fits = held.2 })
 
-  tlsa_back : IsRow tlsa → LineFits tlsa → IsWrittenBack 52
-  tlsa_back is_row fits octets found small is =
-      let held = whole_read Tlsa (length octets) (read_data tlsa (left (whole_message octets))) found is in
-      rw held.2 (record {
-        is_text = text_under 52 Tlsa (scan_data tlsa) (λ tokens. refl) (data_printed tlsa held.0) held.0
-            (field_text tlsa is_row octets held.0 small held.1) (λ tokens scans. numbers_unmarked tlsa.fields (scan_last tlsa) tokens held.0 (length tokens) refl scans);
-        fits = fits held.0 (field_data tlsa octets held.0 small held.1);
-      })
+  cds_short : IsReadShort 59
+  cds_short octets found small is =
+      let held = fields_read composed cds fits.cds_fits Cds octets found small is in
+      rw held.3 (record { number = refl; is_data = held.1; fits = held.2 })
 
-  cds_back : IsRow cds → LineFits cds → IsWrittenBack 59
-  cds_back is_row fits octets found small is =
-      let held = whole_read Cds (length octets) (read_data cds (left (whole_message octets))) found is in
-      rw held.2 (record {
-        is_text = text_under 59 Cds (scan_data cds) (λ tokens. refl) (data_printed cds held.0) held.0
-            (field_text cds is_row octets held.0 small held.1) (λ tokens scans. numbers_unmarked cds.fields (scan_last cds) tokens held.0 (length tokens) refl scans);
-        fits = fits held.0 (field_data cds octets held.0 small held.1);
-      })
+  cdnskey_short : IsReadShort 60
+  cdnskey_short octets found small is =
+      let held = fields_read composed cdnskey fits.cdnskey_fits Cdnskey octets found small is in
+      rw held.3 (record { number = refl; is_data = held.1; fits = held.2 })
 
-  cdnskey_back : IsRow cdnskey → LineFits cdnskey → IsWrittenBack 60
-  cdnskey_back is_row fits octets found small is =
-      let held = whole_read Cdnskey (length octets) (read_data cdnskey (left (whole_message octets))) found is in
-      rw held.2 (record {
-        is_text = text_under 60 Cdnskey (scan_data cdnskey) (λ tokens. refl) (data_printed cdnskey held.0) held.0
-            (field_text cdnskey is_row octets held.0 small held.1) (λ tokens scans. numbers_unmarked cdnskey.fields (scan_last cdnskey) tokens held.0 (length tokens) refl scans);
-        fits = fits held.0 (field_data cdnskey octets held.0 small held.1);
-      })
+  openpgpkey_short : IsReadShort 61
+  openpgpkey_short octets found small is =
+      let held = fields_read composed openpgpkey fits.openpgpkey_fits Openpgpkey octets found small is in
+      rw held.3 (record { number = refl; is_data = held.1; fits = held.2 })
 
-  zonemd_back : IsRow zonemd → LineFits zonemd → IsWrittenBack 63
-  zonemd_back is_row fits octets found small is =
-      let held = whole_read Zonemd (length octets) (read_data zonemd (left (whole_message octets))) found is in
-      rw held.2 (record {
-        is_text = text_under 63 Zonemd (scan_data zonemd) (λ tokens. refl) (data_printed zonemd held.0) held.0
-            (field_text zonemd is_row octets held.0 small held.1) (λ tokens scans. numbers_unmarked zonemd.fields (scan_last zonemd) tokens held.0 (length tokens) refl scans);
-        fits = fits held.0 (field_data zonemd octets held.0 small held.1);
-      })
+  zonemd_short : IsReadShort 63
+  zonemd_short octets found small is =
+      let held = fields_read composed zonemd fits.zonemd_fits Zonemd octets found small is in
+      rw held.3 (record { number = refl; is_data = held.1; fits = held.2 })
 
-ipseckey_unmarked : (tokens : List (List Symbol)) (found : ipseckeys.Ipseckey) (end : ℕ) → scan_ipseckey tokens 0 ≡ done found end → is_marked tokens 0 ≡ false
-ipseckey_unmarked tokens found end scans =
-    number_unmarked 256
-    (λ precedence after_precedence.
-    scan_then (number_below 256 tokens after_precedence) (λ type after_type.
-    scan_then (number_below 256 tokens after_type) (λ algorithm after_algorithm.
-    scan_then (scan_gateway type tokens after_algorithm) (λ gateway after_gateway.
-    scan_then (rest_base64 tokens after_gateway) (λ key end.
-    complete (record { precedence = precedence; algorithm = algorithm; gateway = gateway; key = key }) tokens end)))))
-    tokens found end scans
-
-ipseckey_back : IpseckeyComposedBack → IpseckeyTextReadBack → IpseckeyLineFits → IsWrittenBack 45
-ipseckey_back composed texts fits octets found small is =
+ipseckey_short : IpseckeyComposedBack → IpseckeyLineFits → IsReadShort 45
+ipseckey_short composed fits octets found small is =
     let input = whole_message octets in
     let held = part_read Ipseckey (length octets) (ipseckey_read input) found is in
     let whole = composed input held.0 (octets_from octets small) (omega arith) held.1 in
-    rw held.2 (record {
-      is_text = text_under 45 Ipseckey scan_ipseckey (λ tokens. refl) (ipseckey_printed held.0.value) held.0.value
-          (texts held.0.value whole.is_data whole.has_key) (λ tokens scans. ipseckey_unmarked tokens held.0.value (length tokens) scans);
-      fits = fits held.0.value whole.is_data;
-    })
-
--- the text of a service and its parameters
-service_text : (found : Record) → IsData found → IsTextOf svcb_data (svcb.data_printed found) found
-service_text found is =
-    let text = text_again found is in
-    record { has = text.some; scanned = λ tokens are. text.scanned tokens are [] ∙ ap (done found) (zero-add (length tokens)) }
-
-service_unmarked : (found : Record) (tokens : List (List Symbol)) → svcb_data tokens 0 ≡ done found (length tokens) → is_marked tokens 0 ≡ false
-service_unmarked found tokens scans =
-    number_unmarked (2 ^ 16)
-    (λ priority target.
-    scan_then (name tokens target) (λ labels parameters.
-    scan_then (params tokens parameters) (λ pairs end.
-    svcb.fitting (record { priority = priority; labels = labels; pairs = pairs }) end)))
-    tokens found (length tokens) scans
-
-svcb_text : DataLineFits → (found : Record) → IsData found → IsShortText 64 (Svcb found)
-svcb_text fits found is = record {
-  is_text = text_under 64 Svcb svcb_data (λ tokens. refl) (svcb.data_printed found) found (service_text found is) (service_unmarked found);
-  fits = fits found is;
-}
-
-https_text : DataLineFits → (found : Record) → IsData found → IsShortText 65 (Https found)
-https_text fits found is = record {
-  is_text = text_under 65 Https svcb_data (λ tokens. refl) (svcb.data_printed found) found (service_text found is) (service_unmarked found);
-  fits = fits found is;
-}
+    rw held.2 (record { number = refl; is_data = (whole.is_data, whole.has_key); fits = fits held.0.value whole.is_data })
 
 all_octets : (octets : List ℕ) → length octets ≡ length octets - 0
 all_octets octets = omega arith
@@ -302,15 +242,17 @@ module _ (is_data : ReadIsData) (fits : DataLineFits) where
   service_data : (octets : List ℕ) (held : Record) → AreSmall octets → read octets 0 (length octets) ≡ Ok held → IsData held
   service_data octets held small is = is_data octets 0 (length octets) held (octets_from octets small) (omega arith) is
 
-  svcb_back : IsWrittenBack 64
-  svcb_back octets found small is =
+  svcb_short : IsReadShort 64
+  svcb_short octets found small is =
       let held = whole_read Svcb (length octets) (read octets 0 (length octets - 0)) found is in
-      rw held.2 (svcb_text fits held.0 (service_data octets held.0 small (ap (λ len. read octets 0 len) (all_octets octets) ∙ held.1)))
+      let is_data = service_data octets held.0 small (ap (λ len. read octets 0 len) (all_octets octets) ∙ held.1) in
+      rw held.2 (record { number = refl; is_data = is_data; fits = fits held.0 is_data })
 
-  https_back : IsWrittenBack 65
-  https_back octets found small is =
+  https_short : IsReadShort 65
+  https_short octets found small is =
       let held = whole_read Https (length octets) (read octets 0 (length octets - 0)) found is in
-      rw held.2 (https_text fits held.0 (service_data octets held.0 small (ap (λ len. read octets 0 len) (all_octets octets) ∙ held.1)))
+      let is_data = service_data octets held.0 small (ap (λ len. read octets 0 len) (all_octets octets) ∙ held.1) in
+      rw held.2 (record { number = refl; is_data = is_data; fits = fits held.0 is_data })
 
 -- an address that is read has its octets
 address_held : (len : ℕ) (octets : List ℕ) (held : DataRead (List ℕ)) → AreSmall octets → address_read len (whole_message octets) ≡ Ok held
@@ -326,23 +268,25 @@ address_held len octets held small is = elim (cases_lt (length octets) (0 + len)
       rw same (omega (arith, length-take (0 + len - 0) octets, enough), label_octets octets 0 (0 + len) (octets_from octets small))
 ]
 
-a_back : ATextReadBack → IsWrittenBack 1
-a_back texts octets found small is =
+a_short : IsReadShort 1
+a_short octets found small is =
     let held = part_read A (length octets) (address_read 4 (whole_message octets)) found is in
     let is_address = address_held 4 octets held.0 small held.1 in
     let address = held.0.value in
     rw held.2 (record {
-      is_text = texts address is_address;
+      number = refl;
+      is_data = is_address;
       fits = omega (arith, ipv4-length address is_address.1, length-append (ipv4_text address) (10 ∷ []));
     })
 
-aaaa_back : AaaaTextReadBack → IsWrittenBack 28
-aaaa_back texts octets found small is =
+aaaa_short : IsReadShort 28
+aaaa_short octets found small is =
     let held = part_read Aaaa (length octets) (address_read 16 (whole_message octets)) found is in
     let is_address = address_held 16 octets held.0 small held.1 in
     let address = held.0.value in
     rw held.2 (record {
-      is_text = texts address is_address;
+      number = refl;
+      is_data = is_address;
       fits = omega (arith, ipv6-length address is_address.0 is_address.1, length-append (ipv6_text address) (10 ∷ []));
     })
 
@@ -359,16 +303,17 @@ unknown_held rtype octets held is = elim (cases_lt 65535 (length octets)) [
       (omega arith, cc)
 ]
 
-unknown_back : UnknownTextReadBack → UnknownTextByOctets → (rtype : ℕ)
+unknown_short : UnknownTextByOctets → (rtype : ℕ)
     → ((octets : List ℕ) → data_in rtype octets ≡ wholly_read (length octets) (read_as Unknown (reaching (length octets) (unknown_read rtype (left (whole_message octets))))))
-    → IsWrittenBack rtype
-unknown_back texts lengths rtype in_octets octets found small is =
+    → IsReadShort rtype
+unknown_short lengths rtype in_octets octets found small is =
     let all = left (whole_message octets) in
     let held = whole_read Unknown (length octets) (unknown_read rtype all) found (sym (in_octets octets) ∙ is) in
     let known = unknown_held rtype all held.0 held.1 in
     let are : AreOctets all = label_octets octets 0 (length octets) (octets_from octets small) in
     rw held.2 (rw known.1 (record {
-      is_text = texts (record { rtype = rtype; octets = all }) are known.0;
+      number = refl;
+      is_data = (are, known.0);
       fits = let by_octets = lengths all known.0 in let few = known.0 in omega (arith, by_octets, few, length-append (unknown_text all) (10 ∷ []));
     }))
 
@@ -377,21 +322,22 @@ unknown_back texts lengths rtype in_octets octets found small is =
 another : (rtype n : ℕ) → (rtype ≡ n → ⊥) → (rtype == n) ≡ false
 another rtype n isnt = grind (arith, nat_tests)
 
--- the types with fields of their own, but for one
-pub record AreWrittenBack : Type 0 where
-  a : IsWrittenBack 1
-  aaaa : IsWrittenBack 28
-  sshfp : IsWrittenBack 44
-  ipseckey : IsWrittenBack 45
-  tlsa : IsWrittenBack 52
-  cds : IsWrittenBack 59
-  cdnskey : IsWrittenBack 60
-  zonemd : IsWrittenBack 63
-  svcb : IsWrittenBack 64
-  https : IsWrittenBack 65
+-- the types with fields of their own
+pub record AreReadShort : Type 0 where
+  a : IsReadShort 1
+  aaaa : IsReadShort 28
+  sshfp : IsReadShort 44
+  ipseckey : IsReadShort 45
+  tlsa : IsReadShort 52
+  cds : IsReadShort 59
+  cdnskey : IsReadShort 60
+  openpgpkey : IsReadShort 61
+  zonemd : IsReadShort 63
+  svcb : IsReadShort 64
+  https : IsReadShort 65
 
-every_type : UnknownTextReadBack → UnknownTextByOctets → AreWrittenBack → (rtype : ℕ) → (rtype ≡ 61 → ⊥) → IsWrittenBack rtype
-every_type texts lengths are rtype n61 = elim (cases_eq rtype 1) [
+every_type : UnknownTextByOctets → AreReadShort → (rtype : ℕ) → IsReadShort rtype
+every_type lengths are rtype = elim (cases_eq rtype 1) [
   | inl is ↦ rw is are.a
   | inr n1 ↦ elim (cases_eq rtype 28) [
     | inl is ↦ rw is are.aaaa
@@ -405,16 +351,19 @@ every_type texts lengths are rtype n61 = elim (cases_eq rtype 1) [
             | inl is ↦ rw is are.cds
             | inr n59 ↦ elim (cases_eq rtype 60) [
               | inl is ↦ rw is are.cdnskey
-              | inr n60 ↦ elim (cases_eq rtype 63) [
-                | inl is ↦ rw is are.zonemd
-                | inr n63 ↦ elim (cases_eq rtype 64) [
-                  | inl is ↦ rw is are.svcb
-                  | inr n64 ↦ elim (cases_eq rtype 65) [
-                    | inl is ↦ rw is are.https
-                    | inr n65 ↦ unknown_back texts lengths rtype (λ octets.
-                        rw (another rtype 1 n1) (rw (another rtype 28 n28) (rw (another rtype 44 n44) (rw (another rtype 45 n45) (rw (another rtype 52 n52)
-                        (rw (another rtype 59 n59) (rw (another rtype 60 n60) (rw (another rtype 61 n61) (rw (another rtype 63 n63) (rw (another rtype 64 n64)
-                        (rw (another rtype 65 n65) refl)))))))))))
+              | inr n60 ↦ elim (cases_eq rtype 61) [
+                | inl is ↦ rw is are.openpgpkey
+                | inr n61 ↦ elim (cases_eq rtype 63) [
+                  | inl is ↦ rw is are.zonemd
+                  | inr n63 ↦ elim (cases_eq rtype 64) [
+                    | inl is ↦ rw is are.svcb
+                    | inr n64 ↦ elim (cases_eq rtype 65) [
+                      | inl is ↦ rw is are.https
+                      | inr n65 ↦ unknown_short lengths rtype (λ octets.
+                          rw (another rtype 1 n1) (rw (another rtype 28 n28) (rw (another rtype 44 n44) (rw (another rtype 45 n45) (rw (another rtype 52 n52) (
+                          rw (another rtype 59 n59) (rw (another rtype 60 n60) (rw (another rtype 61 n61) (rw (another rtype 63 n63) (rw (another rtype 64 n64) (
+                          rw (another rtype 65 n65) (refl))))))))))))
+                    ]
                   ]
                 ]
               ]
@@ -426,22 +375,22 @@ every_type texts lengths are rtype n61 = elim (cases_eq rtype 1) [
   ]
 ]
 
-pub types_back : AreWrittenBack → UnknownTextReadBack → UnknownTextByOctets → TypesAreScannedBack
-types_back are texts lengths rtype other = shown_back rtype (every_type texts lengths are rtype other)
+pub types_back : UnionTextReadBack → UnknownTextByOctets → AreReadShort → TypesAreScannedBack
+types_back texts lengths are rtype = shown_back texts rtype (every_type lengths are rtype)
 
-pub are_back : ReadIsData → ReadComposedBack → DataTextReadBack → TypesAreRows → IpseckeyComposedBack → IpseckeyTextReadBack
-    → DataLineFits → TypesLinesFit → IpseckeyLineFits → ATextReadBack → AaaaTextReadBack → AreWrittenBack
-are_back is_data composed texts types ipseckey_composed ipseckey_texts line_fits lines_fit ipseckey_fits a_texts aaaa_texts = record {
-  a = a_back a_texts;
-  aaaa = aaaa_back aaaa_texts;
-  sshfp = sshfp_back composed texts types.sshfp_is lines_fit.sshfp_fits;
-  ipseckey = ipseckey_back ipseckey_composed ipseckey_texts ipseckey_fits;
-  tlsa = tlsa_back composed texts types.tlsa_is lines_fit.tlsa_fits;
-  cds = cds_back composed texts types.cds_is lines_fit.cds_fits;
-  cdnskey = cdnskey_back composed texts types.cdnskey_is lines_fit.cdnskey_fits;
-  zonemd = zonemd_back composed texts types.zonemd_is lines_fit.zonemd_fits;
-  svcb = svcb_back is_data line_fits;
-  https = https_back is_data line_fits;
+pub are_short : ReadIsData → ReadComposedBack → IpseckeyComposedBack → DataLineFits → TypesLinesFit → IpseckeyLineFits → AreReadShort
+are_short is_data composed ipseckey_composed line_fits lines_fit ipseckey_fits = record {
+  a = a_short;
+  aaaa = aaaa_short;
+  sshfp = sshfp_short composed lines_fit;
+  ipseckey = ipseckey_short ipseckey_composed ipseckey_fits;
+  tlsa = tlsa_short composed lines_fit;
+  cds = cds_short composed lines_fit;
+  cdnskey = cdnskey_short composed lines_fit;
+  openpgpkey = openpgpkey_short composed lines_fit;
+  zonemd = zonemd_short composed lines_fit;
+  svcb = svcb_short is_data line_fits;
+  https = https_short is_data line_fits;
 }
 
 -- ---- all data
@@ -488,9 +437,9 @@ hexadecimal_fits found is =
     let fits = is.is_record.fits in
     omega (arith, long, length-append (encode_lower octets) (10 ∷ []))
 
-pub all_back : RecordReadBack → DataLineFits → AllDataBack
+pub all_back : RecordReadBack → UnionTextReadBack → DataLineFits → AllDataBack
 unfolding answer_of
-all_back read_back line_fits found is =
+all_back read_back texts line_fits found is =
     let octets = rdata found.priority found.labels found.pairs in
     let given = report.line (encode_lower octets) in
     let few = hexadecimal_fits found is in
@@ -498,10 +447,10 @@ all_back read_back line_fits found is =
     let back = read_back found is.is_record in (
       record {
         shown = show_due 64 given _ (ap (spelled_shown 64) spelled ∙ ap data_shown (service_read Svcb octets found back)) few;
-        scanned = scanned_back 64 (Svcb found) _ (svcb_text line_fits found is) refl;
+        scanned = scanned_back texts 64 (Svcb found) _ (record { number = refl; is_data = is; fits = line_fits found is }) refl;
       },
       record {
         shown = show_due 65 given _ (ap (spelled_shown 65) spelled ∙ ap data_shown (service_read Https octets found back)) few;
-        scanned = scanned_back 65 (Https found) _ (https_text line_fits found is) refl;
+        scanned = scanned_back texts 65 (Https found) _ (record { number = refl; is_data = is; fits = line_fits found is }) refl;
       },
     )

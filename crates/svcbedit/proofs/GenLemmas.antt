@@ -5,7 +5,7 @@ use Rattle.name_spec.specs.Octets.{be2}
 use Rattle.name_spec.specs.Names.{name_wire}
 use Rattle.svcb_spec.specs.Params.{pair_wire}
 use Rattle.svcb_spec.specs.Values.{Value}
-use Rattle.svcbedit.specs.Generate.{own_params, own_message, pushes_of, pushes_below}
+use Rattle.svcbedit.specs.Generate.{own_params, own_message, pushes_at, pushes_below}
 
 -- one parameter more
 pub own_message-more : (i : ℕ) → own_message (i + 1) ≡ own_message i ++ pair_wire (100 + 8 * i) (Some (be2 i))
@@ -18,15 +18,15 @@ unfolding own_params
 own_message-none = refl
 
 -- what is left behind the values so far
-pub pushes_below-more : (front grown : List Value) (left : ℕ) (all : List Value) → 0 < left → grown ≡ front ++ pushes_of (left - 1)
+pub pushes_below-more : (front grown : List Value) (left : ℕ) (all : List Value) → 0 < left → grown ≡ front ++ pushes_at (left - 1)
     → front ++ pushes_below left ≡ all → grown ++ pushes_below (left - 1) ≡ all
 unfolding pushes_below
 pushes_below-more front grown zero all some is whole = absurd (omega arith)
 pushes_below-more front grown (suc j) all some is whole =
     let one : suc j - 1 ≡ j = omega arith in
     ap (λ n. grown ++ pushes_below n) one
-    ∙ ap (λ values. values ++ pushes_below j) (is ∙ ap (λ n. front ++ pushes_of n) one)
-    ∙ append_assoc front (pushes_of j) (pushes_below j) ∙ whole
+    ∙ ap (λ values. values ++ pushes_below j) (is ∙ ap (λ n. front ++ pushes_at n) one)
+    ∙ append_assoc front (pushes_at j) (pushes_below j) ∙ whole
 
 pub pushes_below-none : (front : List Value) (left : ℕ) (all : List Value) → left ≡ 0 → front ++ pushes_below left ≡ all → front ≡ all
 unfolding pushes_below

@@ -26,13 +26,13 @@ abbrev pub own_push : ℕ → Value
 own_push j = Unknown (101 + 8 * j) (be2 j)
 
 -- once, or twice in a row where j is divisible by 4
-abbrev pub pushes_of : ℕ → List Value
-pushes_of j = if j % 4 == 0 then own_push j ∷ own_push j ∷ [] else own_push j ∷ []
+abbrev pub pushes_at : ℕ → List Value
+pushes_at j = if j % 4 == 0 then own_push j ∷ own_push j ∷ [] else own_push j ∷ []
 
 -- for each j below a number, from the greatest down
 unfoldable pub pushes_below : ℕ → List Value
 pushes_below zero = []
-pushes_below (suc j) = pushes_of j ++ pushes_below j
+pushes_below (suc j) = pushes_at j ++ pushes_below j
 
 abbrev pub is_accepted : Reply → Bool
 is_accepted Accepted = true

@@ -1,5 +1,5 @@
 -- Laws of the commands, which the functions of `src/laws.rt` state.
-use Rattle.std.specs.Prelude.{◌≡◌, ℕ, List, Option, Some, Ok}
+use Rattle.std.specs.Prelude.{◌≡◌, ℕ, List, Option, Some, None, Ok}
 use Rattle.hex.specs.Hex.{encode_lower}
 use Rattle.svcb_spec.specs.Records.{Record}
 use Rattle.rdata_text_laws.specs.Laws.{IsData}
@@ -8,7 +8,7 @@ use Rattle.union_spec.specs.Texts.{union_printed}
 use Rattle.svcbedit.specs.Commands.{due}
 use Rattle.svcbedit.specs.Report.{Answer, done, line}
 use Rattle.svcbedit.specs.Show.{spelled_octets, data_in}
-use Rattle.svcbedit.specs.declared.words.Command.TheVariants.{Show, Scan}
+use Rattle.svcbedit.specs.declared.words.Command.TheVariants.{Show, Scan, Gen}
 
 -- the octets of data in hexadecimal
 abbrev pub hexadecimal : RecordData → List ℕ
@@ -34,9 +34,9 @@ abbrev pub ShownIsScannedBack : ℕ → Type 0
 ShownIsScannedBack rtype = (input : List ℕ) (answer : Answer) → due_to_show rtype input ≡ Some answer
     → answer.status ≡ 0 → IsScannedBack rtype input answer.report
 
--- so it is for every type number but 61, that of OPENPGPKEY
+-- so it is for every type number
 abbrev pub TypesAreScannedBack : Type 0
-TypesAreScannedBack = (rtype : ℕ) → (rtype ≡ 61 → ⊥) → ShownIsScannedBack rtype
+TypesAreScannedBack = (rtype : ℕ) → ShownIsScannedBack rtype
 
 -- `show` writes a text for data, and `scan` gives the same octets back
 pub record IsDataBack (rtype : ℕ) (found : RecordData) : Type 0 where
@@ -46,3 +46,12 @@ pub record IsDataBack (rtype : ℕ) (found : RecordData) : Type 0 where
 -- so it is for any data of SVCB and of HTTPS
 abbrev pub AllDataBack : Type 0
 AllDataBack = (found : Record) → IsData found → IsDataBack 64 (Svcb found) × IsDataBack 65 (Https found)
+
+-- an answer is known, and says that the command was done
+abbrev pub IsDone : Option Answer → Type 0
+IsDone None = ⊥
+IsDone (Some answer) = answer.status ≡ 0
+
+-- the answer that is due to `gen` says so for any count and any source
+abbrev pub GenIsDone : Type 0
+GenIsDone = (count : ℕ) (left : Option (List ℕ)) → IsDone (due (Some (Gen count)) left)

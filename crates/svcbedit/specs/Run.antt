@@ -52,3 +52,9 @@ IsNoWriteFault NoMemory = Unit {0}
 abbrev pub TellsCommand : Option Command → Result ℕ Stop → Type 0
 TellsCommand None result = MatchResult result (λ status. status ≡ 1) IsWriteFault
 TellsCommand (Some command) result = IfOk result (λ status. status ≢ 1)
+
+-- no read failed, since none was tried
+abbrev pub IsNoReadFault : Stop → Type 0
+IsNoReadFault ReadFault = ⊥
+IsNoReadFault WriteFault = Unit {0}
+IsNoReadFault NoMemory = Unit {0}

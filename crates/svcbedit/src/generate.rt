@@ -5,7 +5,7 @@ ghost use Rattle.name_spec.specs.Octets.{be2};
 ghost use Rattle.svcb_spec.specs.Params.{pair_wire};
 ghost use Rattle.svcb_text.specs.AllValues.{value_of};
 ghost use Rattle.svcb_rdata.specs.RebuiltView.{seen};
-ghost use Rattle.svcbedit.specs.Generate.{own_message, own_push, pushes_of, pushes_below, is_accepted, is_duplicate, summary, summary_text, generated};
+ghost use Rattle.svcbedit.specs.Generate.{own_message, own_push, pushes_at, pushes_below, is_accepted, is_duplicate, summary, summary_text, generated};
 ghost use Rattle.svcbedit.specs.Report.{done};
 ghost use Rattle.svcbedit.specs.ReportView.{answer_view};
 
@@ -67,7 +67,7 @@ fn own_push(alloc: Global, j: u16) -> Result<AllValues, NoMemory>
 fn add_push(alloc: Global, pushes: &mut Vec<AllValues>, j: u16) -> Result<(), NoMemory>
     requires { j < 2000 }
     ensures { IfOk result (λ _.
-        map value_of pushes.new.items ≡ map value_of pushes.old.items ++ pushes_of j) }
+        map value_of pushes.new.items ≡ map value_of pushes.old.items ++ pushes_at j) }
 {
     pushes.push(own_push(alloc, j)?)?;
     if j % 4 == 0 {

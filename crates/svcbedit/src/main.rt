@@ -16,6 +16,8 @@ mod generate;
 mod hexadecimal;
 pub mod laws;
 mod lines;
+#[cfg(test)]
+mod long_tests;
 mod numbers;
 mod place;
 mod pushes;

@@ -7,7 +7,7 @@ ghost use Rattle.devices.specs.Takes.{TakesAtMost, TakesFront};
 ghost use Rattle.svcbedit.specs.Commands.{due, reads, reads_input};
 ghost use Rattle.svcbedit.specs.Devices.{Draws, Reports};
 ghost use Rattle.svcbedit.specs.ReportView.{answer_view};
-ghost use Rattle.svcbedit.specs.Run.{Ends, Whole, TellsCommand, IsWriteFault, IsNoWriteFault};
+ghost use Rattle.svcbedit.specs.Run.{Ends, Whole, TellsCommand, IsWriteFault, IsNoWriteFault, IsNoReadFault};
 ghost use Rattle.svcbedit.specs.Words.{command_of};
 
 use crate::commands::command_answer;
@@ -28,6 +28,7 @@ fn answer<S: Source>(alloc: Global, command: Command, source: &mut S) -> Result<
     ensures answer { IfOk result (λ answer. IfSome (due (Some command) (S.left source.old))
         (λ known. answer_view answer ≡ known)) }
     ensures cause { IfErr result IsNoWriteFault }
+    ensures unread { OnFalse (reads command) (IfErr result IsNoReadFault) }
     ensures source { Draws (reads command) S.left S.faults source.old source.new result }
 {
     if !command.reads_input() {
@@ -56,6 +57,7 @@ fn perform<S: Source, K: Sink>(
     sink: &mut K,
 ) -> Result<u8, Stop>
     ensures status { TellsCommand (command_of words.now) result }
+    ensures unread { OnFalse (reads_input (command_of words.now)) (IfErr result IsNoReadFault) }
     ensures source { Draws (reads_input (command_of words.now))
         S.left S.faults source.old source.new result }
     ensures sink { Reports K.held K.faults sink.old sink.new
@@ -105,9 +107,10 @@ pub fn run<S: Source, K: Sink>(alloc: Global, words: &[String], source: &mut S, 
         → IfSome (due (command_of words.now) (S.left source.old)) (λ answer. (result ≡ 6)
         ⊎ ((result ≡ answer.status) × Whole answer (K.held sink.old) (K.held sink.new))) }
 
-    // A fault is answered only where the device's count of faults rose; each other status leaves that
-    // count.
+    // A fault is answered only where the device's count of faults rose, and a read fault only where
+    // the command reads; each other status leaves that count.
     ensures read_fault { result ≡ 4 → Rose (S.faults source.old) (S.faults source.new) }
+    ensures no_read { OnFalse (reads_input (command_of words.now)) (result ≢ 4) }
     ensures write_fault { result ≡ 5 → Rose (K.faults sink.old) (K.faults sink.new) }
     ensures reads { result ≢ 4 → S.faults source.new ≡ S.faults source.old }
     ensures writes { result ≢ 5 → K.faults sink.new ≡ K.faults sink.old }

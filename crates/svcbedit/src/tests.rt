@@ -8,7 +8,7 @@ use std::test::Fail;
 const PIECE: usize = 4;
 
 /// A command line, whose words are joined by blanks. An empty one has no words.
-fn words(rt: &HostRuntime, line: &str) -> Result<Vec<String>, AllocError> {
+pub fn words(rt: &HostRuntime, line: &str) -> Result<Vec<String>, AllocError> {
     let mut words = Vec::new(rt.alloc());
     for word in line.split_whitespace() {
         words.push(String::from_str(rt.alloc(), word)?)?;
@@ -38,6 +38,19 @@ pub fn run_on(
         status,
         report: Vec::from_slice(rt.alloc(), sink.held())?,
     })
+}
+
+/// Whether a command line ends on an input with this status, and writes these lines, the last one without its LF.
+pub fn ends_with(
+    rt: &HostRuntime,
+    line: &str,
+    input: &str,
+    status: u8,
+    written: &str,
+) -> Result<bool, Fail> {
+    let ended = run_on(rt, line, input, &[], &[])?;
+    let report = format!(in rt.alloc(); "{written}\n")?;
+    Ok(ended.status == status && ended.report.as_slice() == report.as_bytes())
 }
 
 #[test]
@@ -111,7 +124,9 @@ fn refuses_input(rt: HostRuntime) -> Result<(), Fail> {
         ("0 0 0", "refused: bad line 2\n"),
         ("0 3 9\n00010\n", "refused: bad line 2\n"),
         ("0 3 9\n000100\r\n", "refused: bad line 2\n"),
+        ("0 4 9\n000100\n", "refused: place outside message\n"),
         ("0 4 9\n000100\nport\n", "refused: place outside message\n"),
+        ("0 3 2147483648\n000100\n", "refused: limit too large\n"),
         (
             "0 3 2147483648\n000100\nport\n",
             "refused: limit too large\n",
@@ -133,19 +148,19 @@ fn refuses_input(rt: HostRuntime) -> Result<(), Fail> {
     Ok(())
 }
 
-/// Lines that push, and the report on them.
+/// Lines that push, and what is written on them, without the last LF.
 const PUSHED: [(&str, &str); 6] = [
     (
         "alpn=h2\nport=53\nport=54",
-        "accepted\naccepted\nduplicate key\n00010000010003026832000300020035\n",
+        "accepted\naccepted\nduplicate key\n00010000010003026832000300020035",
     ),
-    ("key1=\\002h2", "accepted\n00010000010003026832\n"),
-    ("\"port=53\"", "accepted\n000100000300020035\n"),
-    ("  port=53 ; c", "accepted\n000100000300020035\n"),
-    ("( port=53 )\r", "accepted\n000100000300020035\n"),
+    ("key1=\\002h2", "accepted\n00010000010003026832"),
+    ("\"port=53\"", "accepted\n000100000300020035"),
+    ("  port=53 ; c", "accepted\n000100000300020035"),
+    ("( port=53 )\r", "accepted\n000100000300020035"),
     (
         "raw 3 0035\nport=54",
-        "accepted\nduplicate key\n000100000300020035\n",
+        "accepted\nduplicate key\n000100000300020035",
     ),
 ];
 
@@ -166,10 +181,9 @@ const BAD_LINES: [&str; 12] = [
 ];
 
 /// Whether `edit` ends so on lines that are to push, where the root is the target and no parameters were read.
-fn ends_on(rt: &HostRuntime, lines: &str, status: u8, report: &str) -> Result<bool, Fail> {
+fn ends_on(rt: &HostRuntime, lines: &str, status: u8, written: &str) -> Result<bool, Fail> {
     let input = format!(in rt.alloc(); "0 3 100\n000100\n{lines}\n")?;
-    let ended = run_on(rt, "edit", input.as_str(), &[], &[])?;
-    Ok(ended.status == status && ended.report.as_slice() == report.as_bytes())
+    ends_with(rt, "edit", input.as_str(), status, written)
 }
 
 #[test]
@@ -183,10 +197,7 @@ fn pushes_texts(rt: HostRuntime) -> Result<(), Fail> {
 #[test]
 fn refuses_texts(rt: HostRuntime) -> Result<(), Fail> {
     for line in &BAD_LINES {
-        assert!(rt;
-            ends_on(&rt, line, 2, "refused: bad line 3\n")?,
-            "on {line}"
-        );
+        assert!(rt; ends_on(&rt, line, 2, "refused: bad line 3")?, "on {line}");
     }
     Ok(())
 }
@@ -244,11 +255,11 @@ fn stops_at_faults(rt: HostRuntime) -> Result<(), Fail> {
     Ok(())
 }
 
-/// How `edit` ended on an input that may be long.
-fn edit_long(rt: &HostRuntime, input: &[u8]) -> Result<Ended, Fail> {
+/// How a command ended on an input that may be long, over a sink with so many places.
+pub fn run_long(rt: &HostRuntime, line: &str, input: &[u8], places: usize) -> Result<Ended, Fail> {
     let mut source = SureSource::new(input);
-    let mut sink = MemorySink::new(vec![in rt.alloc(); 0; 200]?, 200, &[]);
-    let status = run(rt.alloc(), &words(rt, "edit")?, &mut source, &mut sink);
+    let mut sink = MemorySink::new(vec![in rt.alloc(); 0; places]?, 4096, &[]);
+    let status = run(rt.alloc(), &words(rt, line)?, &mut source, &mut sink);
     Ok(Ended {
         status,
         report: Vec::from_slice(rt.alloc(), sink.held())?,
@@ -262,7 +273,7 @@ fn limits_lengths(rt: HostRuntime) -> Result<(), Fail> {
         (MAX_INPUT + 1, "refused: input too long\n"),
     ] {
         let input = vec![in rt.alloc(); b'0'; len]?;
-        let ended = edit_long(&rt, &input)?;
+        let ended = run_long(&rt, "edit", &input, 200)?;
         assert_eq!(rt; ended.status, 2, "of {len} octets");
         assert_eq!(rt;
             ended.report.as_slice(),
@@ -276,7 +287,7 @@ fn limits_lengths(rt: HostRuntime) -> Result<(), Fail> {
     ] {
         let mut input = Vec::from_slice(rt.alloc(), b"0 3 65539\n000100\nraw 3 ")?;
         input.resize(input.len() + 2 * len, b'0')?;
-        let ended = edit_long(&rt, &input)?;
+        let ended = run_long(&rt, "edit", &input, 200)?;
         assert_eq!(rt; ended.status, status, "of a value of {len} octets");
         assert_eq!(rt; ended.report.as_slice(), report.as_bytes(), "of {len}");
     }

@@ -1,9 +1,9 @@
 //! Runs of `show` and `scan` with the word of each type, over devices in memory.
-use crate::tests::run_on;
+use crate::tests::ends_with;
 use std::test::Fail;
 
 /// Command lines, each with an input, a status and the line that is written, without its LF.
-const ROWS: [(&str, &str, u8, &str); 32] = [
+const ROWS: [(&str, &str, u8, &str); 43] = [
     ("scan a", "192.0.2.1\n", 0, "c0000201"),
     ("show a", "c0000201\n", 0, "192.0.2.1"),
     ("scan a", "192.0.2.1 x\n", 3, "error: trailing tokens"),
@@ -13,6 +13,12 @@ const ROWS: [(&str, &str, u8, &str); 32] = [
         "2001:db9::12:13\n",
         0,
         "20010db9000000000000000000120013",
+    ),
+    (
+        "show aaaa",
+        "20010db9000000000000000000120013\n",
+        0,
+        "2001:db9::12:13",
     ),
     (
         "scan sshfp",
@@ -43,6 +49,7 @@ const ROWS: [(&str, &str, u8, &str); 32] = [
         "error: unknown gateway type",
     ),
     ("scan tlsa", "0 0 1 d2ab\n", 0, "000001d2ab"),
+    ("show tlsa", "000001d2ab\n", 0, "0 0 1 ( D2AB )"),
     ("scan cds", "10 5 2 6b6579\n", 0, "000a05026b6579"),
     ("show cds", "000a05026b6579\n", 0, "10 5 2 6b6579"),
     ("scan cdnskey", "10 11 5 a2V5\n", 0, "000a0b056b6579"),
@@ -57,19 +64,34 @@ const ROWS: [(&str, &str, u8, &str); 32] = [
     ),
     (
         "show zonemd",
+        "7848b91c010100112233445566778899aabb\n",
+        0,
+        "2018031900 1 1 ( 00112233445566778899AABB )",
+    ),
+    (
+        "show zonemd",
         "7848b91c010100112233445566778899aa\n",
         3,
         "error: short input",
     ),
     ("scan type999", "\\# 3 0A0b0c\n", 0, "0a0b0c"),
     ("show type999", "0a0b0c\n", 0, "\\# 3 0A0B0C"),
+    ("scan type999", "\\# 3 0A0B0C\n", 0, "0a0b0c"),
+    // any token that is one escaped symbol of that octet is the marker
+    ("scan type999", "\\035 1 0a\n", 0, "0a"),
+    ("scan a", "\"\\#\" 4 c0000201\n", 0, "c0000201"),
     ("scan type999", "\\# 4 0a0b0c\n", 3, "error: bad number"),
     ("scan type999", "x\n", 3, "error: unknown type"),
     // the words of numbers
     ("show type1", "c0000201\n", 0, "192.0.2.1"),
+    ("scan type1", "192.0.2.1\n", 0, "c0000201"),
     ("show type65", "000100\n", 0, "1 . "),
+    ("scan type65", "1 .\n", 0, "000100"),
+    ("scan type00065", "1 .\n", 0, "000100"),
     ("show type00065", "000100\n", 0, "1 . "),
     ("show type0", "\n", 0, "\\# 0"),
+    ("scan type0", "\\# 0\n", 0, ""),
+    ("scan type65535", "\\# 1 0a\n", 0, "0a"),
     ("show type65535", "0a\n", 0, "\\# 1 0A"),
     ("show type999", "0\n", 2, "refused: bad line 1"),
 ];
@@ -89,22 +111,25 @@ const NO_TYPES: [&str; 8] = [
 #[test]
 fn answers(rt: HostRuntime) -> Result<(), Fail> {
     for (line, input, status, text) in &ROWS {
-        let ended = run_on(&rt, line, input, &[], &[])?;
-        let report = format!(in rt.alloc(); "{text}\n")?;
         assert!(rt;
-            ended.status == *status && ended.report.as_slice() == report.as_bytes(),
+            ends_with(&rt, line, input, *status, text)?,
             "{line} on {input}"
         );
     }
     Ok(())
 }
 
+/// Whether a command refuses a word that names no type.
+fn refuses(rt: &HostRuntime, command: &str, word: &str) -> Result<bool, Fail> {
+    let line = format!(in rt.alloc(); "{command} {word}")?;
+    ends_with(rt, line.as_str(), "000100\n", 1, "refused: unknown command")
+}
+
 #[test]
 fn refuses_other_words(rt: HostRuntime) -> Result<(), Fail> {
     for word in &NO_TYPES {
-        let line = format!(in rt.alloc(); "show {word}")?;
-        let ended = run_on(&rt, line.as_str(), "000100\n", &[], &[])?;
-        assert!(rt; ended.status == 1, "of {word}");
+        assert!(rt; refuses(&rt, "show", word)?, "show {word}");
+        assert!(rt; refuses(&rt, "scan", word)?, "scan {word}");
     }
     Ok(())
 }

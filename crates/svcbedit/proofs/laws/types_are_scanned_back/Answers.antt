@@ -1,10 +1,8 @@
-use Rattle.svcbedit.proofs.Back.{are_back, types_back}
+use Rattle.svcbedit.proofs.Back.{are_short, types_back}
 use Rattle.svcbedit.proofs.laws.types_are_scanned_back.Goals as goal
 
 pub returns : goal.returns
 returns c =
-    types_back
-    (are_back c.read_is_data.ensures c.read_composed_back.ensures c.data_text_read_back.ensures c.types_are_rows.ensures
-    c.ipseckey_composed_back.ensures c.ipseckey_text_read_back.ensures c.data_line_fits.ensures c.types_lines_fit.ensures
-    c.ipseckey_line_fits.ensures c.a_text_read_back.ensures c.aaaa_text_read_back.ensures)
-    c.unknown_text_read_back.ensures c.unknown_text_by_octets.ensures
+    types_back c.union_text_read_back.ensures c.unknown_text_by_octets.ensures
+    (are_short c.read_is_data.ensures c.read_composed_back.ensures c.ipseckey_composed_back.ensures c.data_line_fits.ensures
+    c.types_lines_fit.ensures c.ipseckey_line_fits.ensures)
