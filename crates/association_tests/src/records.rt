@@ -1,11 +1,14 @@
 //! Record data in octets, as text and laid out.
 
 use association_rdata::{AssociationFields, FieldsData};
-use digest_rdata::{CdsFields, SshfpFields, TlsaFields, ZonemdFields};
+use digest_rdata::{Cds, CdsFields, SshfpFields, TlsaFields, ZonemdFields};
 use dns_text::{DisplayKind, Entry, EntryScanner, ScanError, Scanner, display_zonefile};
 use key_rdata::{CdnskeyFields, OpenpgpkeyFields};
+use key_registry::{DigestAlgorithm, SecurityAlgorithm};
 use std::alloc::Global;
-use wire_base::{ComposeRecordData, ParseError, ParseRecordData, Parser, RecordData, Rtype};
+use wire_base::{
+    ComposeRecordData, Octets, ParseError, ParseRecordData, Parser, RecordData, Rtype,
+};
 
 /// A text, the octets that it is, and how the data is printed and laid out.
 struct Row {
@@ -149,22 +152,44 @@ fn texts_with_faults_are_refused(rt: HostRuntime) {
     assert!(rt; fault::<CdnskeyFields>(rt.alloc(), b"10 11 5 a2V") == Some(ScanError::BadBase64));
 }
 
-/// The octets of the data of a text.
-fn composed<F: AssociationFields>(alloc: Global, text: &[u8]) -> Result<Vec<u8>, ScanError> {
+/// ZONEMD data with a digest of 11 octets.
+const SHORT_ZONEMD: &[u8] = b"\x78\x48\xb9\x1c\x01\x01\x00\x11\x22\x33\x44\x55\x66\x77\x88\x99\xaa";
+
+/// Whether these are the octets of the data of a text.
+fn is_composed<F: AssociationFields>(
+    alloc: Global,
+    text: &[u8],
+    octets: &[u8],
+) -> Result<bool, ScanError> {
     let mut target = Vec::new(alloc);
     scanned::<F>(alloc, text)?.compose_rdata(&mut target)?;
-    Ok(target)
+    Ok(target.as_slice() == octets)
 }
 
 #[test]
 fn a_digest_may_be_short_or_missing_as_text(rt: HostRuntime) {
-    let short = composed::<ZonemdFields>(rt.alloc(), b"2023092203 1 241 CDBE0DED94844904");
+    let text: &[u8] = b"2023092203 1 241 CDBE0DED94844904";
     let octets: &[u8] = b"\x78\x95\xef\xeb\x01\xf1\xcd\xbe\x0d\xed\x94\x84\x49\x04";
-    assert!(rt; matches!(&short, Ok(found) if found.as_slice() == octets));
-    let missing = composed::<TlsaFields>(rt.alloc(), b"3 1 1");
-    assert!(rt; matches!(&missing, Ok(found) if found.as_slice() == [3, 1, 1].as_slice()));
-    let empty = composed::<OpenpgpkeyFields>(rt.alloc(), b"");
-    assert!(rt; matches!(&empty, Ok(found) if found.is_empty()));
+    assert!(rt; is_composed::<ZonemdFields>(rt.alloc(), text, octets) == Ok(true));
+    let text: &[u8] = b"2018031900 1 1 00112233445566778899aa";
+    assert!(rt; is_composed::<ZonemdFields>(rt.alloc(), text, SHORT_ZONEMD) == Ok(true));
+    let octets: &[u8] = b"\x00\x00\x01\xd2\xab";
+    assert!(rt; is_composed::<TlsaFields>(rt.alloc(), b"0 0 1 d2ab", octets) == Ok(true));
+    assert!(rt; is_composed::<TlsaFields>(rt.alloc(), b"3 1 1", b"\x03\x01\x01") == Ok(true));
+    assert!(rt; is_composed::<OpenpgpkeyFields>(rt.alloc(), b"", b"") == Ok(true));
+}
+
+/// Whether the data of a text is that of its fields.
+fn is_made(alloc: Global) -> Result<bool, ScanError> {
+    let found = scanned::<CdsFields>(alloc, b"10 5 2 6b6579")?;
+    let key = Octets::from_slice(alloc, b"key")?;
+    let made = Cds::new(10, SecurityAlgorithm::RSASHA1, DigestAlgorithm::SHA256, key);
+    Ok(made.is_ok_and(|made| made == found))
+}
+
+#[test]
+fn a_text_is_the_data_of_its_fields(rt: HostRuntime) {
+    assert!(rt; is_made(rt.alloc()) == Ok(true));
 }
 
 /// Why octets are no data, and whether the parser stayed.
@@ -179,6 +204,5 @@ fn short_octets_are_refused(rt: HostRuntime) {
     let short = Some((ParseError::ShortInput, true));
     assert!(rt; unread::<CdsFields>(rt.alloc(), b"\x00\x0a\x05") == short);
     assert!(rt; unread::<SshfpFields>(rt.alloc(), b"\x01") == short);
-    let octets: &[u8] = b"\x78\x48\xb9\x1c\x01\x01\x00\x11\x22\x33\x44\x55\x66\x77\x88\x99\xaa";
-    assert!(rt; unread::<ZonemdFields>(rt.alloc(), octets) == short);
+    assert!(rt; unread::<ZonemdFields>(rt.alloc(), SHORT_ZONEMD) == short);
 }

@@ -20,17 +20,27 @@ fn filled(
     Ok(octets)
 }
 
-/// The count of octets of the data whose key is so many letters of base64 and others behind them.
-fn scanned_len(alloc: Global, letters: usize, behind: &[u8]) -> Result<Option<u16>, ScanError> {
-    let text = filled(alloc, b"12 0 12 . ", b'A', letters, behind)?;
+/// The count of octets of the data whose text has so many letters of base64 between others.
+fn scanned_len(
+    alloc: Global,
+    front: &[u8],
+    letters: usize,
+    behind: &[u8],
+) -> Result<Option<u16>, ScanError> {
+    let text = filled(alloc, front, b'A', letters, behind)?;
     let mut scanner = EntryScanner::new(Entry::from_text(text.as_slice())?);
     Ok(Ipseckey::scan(alloc, &mut scanner)?.rdlen(false))
 }
 
 #[test]
 fn texts_of_more_than_65535_octets_are_refused(rt: HostRuntime) {
-    assert!(rt; scanned_len(rt.alloc(), 87376, b"") == Ok(Some(65535)));
-    assert!(rt; scanned_len(rt.alloc(), 87376, b"AA==") == Err(ScanError::LongRecord));
+    let long = Err(ScanError::LongRecord);
+    let dot: &[u8] = b"12 0 12 . ";
+    assert!(rt; scanned_len(rt.alloc(), dot, 87376, b"") == Ok(Some(65535)));
+    assert!(rt; scanned_len(rt.alloc(), dot, 87376, b"AA==") == long);
+    let name: &[u8] = b"12 3 12 abc.def.ghi. ";
+    assert!(rt; scanned_len(rt.alloc(), name, 87356, b"AAA=") == Ok(Some(65535)));
+    assert!(rt; scanned_len(rt.alloc(), name, 87360, b"") == long);
 }
 
 /// The count of octets of data that is read from so many.

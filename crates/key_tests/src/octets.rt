@@ -63,6 +63,83 @@ fn octets_are_read_or_refused(rt: HostRuntime) {
     }
 }
 
+/// Types of gateways, octets of gateways, and their fault, if they have one.
+const GATEWAYS: [(u8, &[u8], Option<ParseError>); 9] = [
+    (0, b"", None),
+    (1, b"\xc0\x00\x02\x26", None),
+    (2, b"\x20\x01\x0d\xb8\0\0\0\0\0\0\0\0\0\0\0\x01", None),
+    (3, b"\x00", None),
+    (3, b"\x03foo\x00", None),
+    (3, b"\x01a\x03foo\x00", None),
+    (3, b"\xc0\x00", Some(ParseError::Form)),
+    (3, b"\x01a\xc0\x00", Some(ParseError::Form)),
+    (4, b"", Some(ParseError::Form)),
+];
+
+/// Algorithms, keys, and their fault, if they have one.
+const KEYS: [(u8, &[u8], Option<ParseError>); 4] = [
+    (0, b"", None),
+    (0, b"key", None),
+    (1, b"", Some(ParseError::ShortInput)),
+    (1, b"key", None),
+];
+
+/// The octets of three numbers, a gateway and a key.
+fn laid_end_to_end(
+    alloc: Global,
+    numbers: [u8; 3],
+    gateway: &[u8],
+    key: &[u8],
+) -> Result<Vec<u8>, ParseError> {
+    let mut octets = Vec::new(alloc);
+    append(&mut octets, &numbers)?;
+    append(&mut octets, gateway)?;
+    append(&mut octets, key)?;
+    Ok(octets)
+}
+
+/// Whether a gateway with each key has the gateway's fault, or else the key's.
+fn gateway_decides_first(
+    alloc: Global,
+    number: u8,
+    gateway: &[u8],
+    fault: Option<ParseError>,
+) -> Result<bool, ParseError> {
+    for (algorithm, key, key_fault) in &KEYS {
+        let octets = laid_end_to_end(alloc, [10, number, *algorithm], gateway, key)?;
+        if read_behind_name(alloc, octets.as_slice())? != (fault.or(*key_fault), true) {
+            return Ok(false);
+        }
+    }
+    Ok(true)
+}
+
+#[test]
+fn a_key_is_missed_behind_the_gateway(rt: HostRuntime) {
+    for (number, gateway, fault) in &GATEWAYS {
+        assert!(rt; gateway_decides_first(rt.alloc(), *number, gateway, *fault) == Ok(true));
+    }
+}
+
+/// Whether octets are missed wherever data is cut off before its gateway ends.
+fn cuts_are_short(alloc: Global, number: u8, gateway: &[u8]) -> Result<bool, ParseError> {
+    let octets = laid_end_to_end(alloc, [10, number, 0], gateway, b"")?;
+    for len in 0..octets.len() {
+        let found = read_behind_name(alloc, &octets[..len])?;
+        if found != (Some(ParseError::ShortInput), true) {
+            return Ok(false);
+        }
+    }
+    Ok(true)
+}
+
+#[test]
+fn cut_octets_are_refused(rt: HostRuntime) {
+    for (number, gateway, _) in &GATEWAYS {
+        assert!(rt; cuts_are_short(rt.alloc(), *number, gateway) == Ok(true));
+    }
+}
+
 /// Whether the fields of data are those of its octets.
 fn has_fields(alloc: Global) -> Result<bool, ParseError> {
     let mut parser = Parser::from_ref(b"\x0a\x01\x02\xc0\x00\x02\x26key");

@@ -16,7 +16,7 @@ fn scanned(alloc: Global, text: &[u8]) -> Result<Ipseckey, ScanError> {
 }
 
 /// Texts, and how their data is printed: those of RFC 4025, section 3.2, among them.
-const PRINTED: [(&[u8], &str); 6] = [
+const PRINTED: [(&[u8], &str); 7] = [
     (b"10 0 0 .", "10 0 0 . (  )"),
     (b"10 3 0 a.", "10 3 0 a. (  )"),
     (
@@ -26,6 +26,10 @@ const PRINTED: [(&[u8], &str); 6] = [
     (
         b"10 0 2 . AQNRU3mG7TVTO2BkR47usntb102uFJtugbo6BSGvgqt4AQ==",
         "10 0 2 . ( AQNRU3mG7TVTO2BkR47usntb102uFJtugbo6BSGvgqt4AQ== )",
+    ),
+    (
+        b"10 3 2 mygateway.example.com. AQNRU3mG7TVTO2BkR47usntb102uFJtugbo6BSGvgqt4AQ==",
+        "10 3 2 mygateway.example.com. ( AQNRU3mG7TVTO2BkR47usntb102uFJtugbo6BSGvgqt4AQ== )",
     ),
     (
         b"10 3 2 mygateway.example.com. ( AQNRU3mG7TVTO2Bk\n R47usntb102uFJtugbo6BSGvgqt4AQ== )",

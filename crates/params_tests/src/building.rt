@@ -10,7 +10,7 @@ use svcb_value::UnknownSvcParamRef;
 use wire_base::{Ipv4Addr, Ipv6Addr, Octets};
 
 /// Whether a builder has parameters of these octets.
-fn has(alloc: Global, builder: &SvcParamsBuilder, octets: &[u8]) -> bool {
+pub(crate) fn has(alloc: Global, builder: &SvcParamsBuilder, octets: &[u8]) -> bool {
     match builder.freeze(alloc) {
         Ok(params) => params.as_slice() == octets,
         Err(_) => false,
@@ -25,15 +25,41 @@ fn push(builder: &mut SvcParamsBuilder, key: u16, octets: &[u8]) -> Result<(), P
     }
 }
 
+/// Pushes three values, in no order of their keys.
+fn push_three(builder: &mut SvcParamsBuilder) -> Result<(), PushError> {
+    push(builder, 1, b"223")?;
+    push(builder, 8, b"225")?;
+    push(builder, 2, b"224")
+}
+
+/// The parameters of those three values.
+const THREE: &[u8] = b"\x00\x01\x00\x03223\x00\x02\x00\x03224\x00\x08\x00\x03225";
+
 /// Whether keys are frozen in ascending order, and the first value of a key stays.
 fn are_in_order(alloc: Global) -> Result<bool, PushError> {
     let mut builder = SvcParamsBuilder::empty(alloc);
-    push(&mut builder, 1, b"223")?;
-    push(&mut builder, 8, b"225")?;
-    push(&mut builder, 2, b"224")?;
+    push_three(&mut builder)?;
+    let is_frozen = has(alloc, &builder, THREE);
     let again = push(&mut builder, 8, b"226");
-    let octets = b"\x00\x01\x00\x03223\x00\x02\x00\x03224\x00\x08\x00\x03225";
-    Ok(again == Err(PushError::DuplicateKey) && has(alloc, &builder, octets))
+    Ok(is_frozen && again == Err(PushError::DuplicateKey) && has(alloc, &builder, THREE))
+}
+
+/// Whether the three values that a closure pushes are the same parameters.
+fn are_three_of_a_closure(alloc: Global) -> Result<bool, PushError> {
+    let params = SvcParams::from_values(
+        alloc,
+        |builder: &mut SvcParamsBuilder| push_three(builder),
+    )?;
+    Ok(params.as_slice() == THREE)
+}
+
+/// Whether a closure that is refused a value has no parameters, for that reason.
+fn is_closure_refused(alloc: Global) -> bool {
+    let params = SvcParams::from_values(alloc, |builder: &mut SvcParamsBuilder| {
+        builder.port(53)?;
+        builder.port(53)
+    });
+    matches!(params, Err(PushError::DuplicateKey))
 }
 
 /// Whether the values that a closure pushes are parameters.
@@ -57,6 +83,8 @@ fn is_level(alloc: Global, level: u8) -> Result<bool, PushError> {
 #[test]
 fn values_are_pushed(rt: HostRuntime) {
     assert!(rt; are_in_order(rt.alloc()) == Ok(true));
+    assert!(rt; are_three_of_a_closure(rt.alloc()) == Ok(true));
+    assert!(rt; is_closure_refused(rt.alloc()));
     assert!(rt; are_of_a_closure(rt.alloc()) == Ok(true));
     assert!(rt; is_level(rt.alloc(), 7) == Ok(true));
 }
@@ -90,7 +118,7 @@ fn push_all(builder: &mut SvcParamsBuilder) -> Result<(), PushValueError> {
 }
 
 /// Pushes one protocol.
-fn push_alpn(
+pub(crate) fn push_alpn(
     alloc: Global,
     builder: &mut SvcParamsBuilder,
     protocol: &[u8],

@@ -10,6 +10,8 @@ mod overlay;
 #[cfg(test)]
 mod reading;
 #[cfg(test)]
+mod refusals;
+#[cfg(test)]
 mod scans;
 #[cfg(test)]
 mod texts;

@@ -60,7 +60,8 @@ fn tokens_spell_parameters(rt: HostRuntime) {
 }
 
 /// Texts, their first fault, and how many tokens are taken then.
-const REFUSED: [(&[u8], ScanError, usize); 9] = [
+const REFUSED: [(&[u8], ScanError, usize); 11] = [
+    (b"1 port=1 port=2", ScanError::DuplicateKey, 2),
     (b"1 port=1 port=2 x", ScanError::DuplicateKey, 2),
     (b"1 key3=ab port=1", ScanError::DuplicateKey, 2),
     (b"1 key0=ab mandatory=port", ScanError::DuplicateKey, 2),
@@ -69,6 +70,7 @@ const REFUSED: [(&[u8], ScanError, usize); 9] = [
     (b"1 mandatory=port port=x", ScanError::BadPort, 2),
     (b"1 alpn=h2,", ScanError::EmptyItem, 1),
     (b"1 alpn=h2 \"\"", ScanError::EmptyParam, 2),
+    (b"1 mandatory=port", ScanError::MandatoryMissing, 2),
     (b"1 mandatory=key123", ScanError::MandatoryMissing, 2),
     (
         b"1 alpn=h2 mandatory=port,alpn ohttp",

@@ -15,7 +15,7 @@ fn scan_text(alloc: Global, text: &[u8]) -> Result<Svcb, ScanError> {
 }
 
 /// Texts, and the octets of the data that they spell.
-const SPELLED: [(&[u8], &[u8]); 7] = [
+const SPELLED: [(&[u8], &[u8]); 12] = [
     (
         b"1 . port=53 alpn=h2",
         b"\x00\x01\x00\x00\x01\x00\x03\x02h2\x00\x03\x00\x02\x00\x35",
@@ -38,6 +38,29 @@ const SPELLED: [(&[u8], &[u8]); 7] = [
     ),
     (b"1 . key1=h2", b"\x00\x01\x00\x00\x01\x00\x02h2"),
     (b"1 . key0=\\000{", b"\x00\x01\x00\x00\x00\x00\x02\x00\x7b"),
+    (
+        b"1 foo.example.com. key667=hello",
+        b"\x00\x01\x03foo\x07example\x03com\x00\x02\x9b\x00\x05hello",
+    ),
+    (
+        b"1 foo.example.com. key667=\"hello\\210qoo\"",
+        b"\x00\x01\x03foo\x07example\x03com\x00\x02\x9b\x00\x09hello\xd2qoo",
+    ),
+    (
+        b"1 foo.example.com. ( ipv6hint=\"2001:db8::1,2001:db8::53:1\" )",
+        b"\x00\x01\x03foo\x07example\x03com\x00\x00\x06\x00\x20\
+            \x20\x01\x0d\xb8\0\0\0\0\0\0\0\0\0\0\0\x01\x20\x01\x0d\xb8\0\0\0\0\0\0\0\0\0\x53\0\x01",
+    ),
+    (
+        b"1 foo.example.com. ipv6hint=\"2001:db8:122:344::192.0.2.33\"",
+        b"\x00\x01\x03foo\x07example\x03com\x00\x00\x06\x00\x10\
+            \x20\x01\x0d\xb8\x01\x22\x03\x44\0\0\0\0\xc0\x00\x02\x21",
+    ),
+    (
+        b"1 . alpn=h3,h2 ipv4hint=192.0.2.1,192.0.2.2 ipv6hint=2001:db8::1",
+        b"\x00\x01\x00\x00\x01\x00\x06\x02h3\x02h2\x00\x04\x00\x08\xc0\x00\x02\x01\xc0\x00\x02\x02\
+            \x00\x06\x00\x10\x20\x01\x0d\xb8\0\0\0\0\0\0\0\0\0\0\0\x01",
+    ),
 ];
 
 /// Whether a text spells the data of these octets.
@@ -58,7 +81,7 @@ fn tokens_spell_data(rt: HostRuntime) {
 }
 
 /// Texts, their first fault, and how many tokens are taken then.
-const REFUSED: [(&[u8], ScanError, usize); 7] = [
+const REFUSED: [(&[u8], ScanError, usize); 15] = [
     (b"", ScanError::EndOfEntry, 0),
     (b"1", ScanError::EndOfEntry, 1),
     (b"\\# 3 000100", ScanError::BadNumber, 0),
@@ -66,6 +89,26 @@ const REFUSED: [(&[u8], ScanError, usize); 7] = [
     (b"1 @ port=53", ScanError::BadName, 1),
     (b"1 . port=53 key3=a", ScanError::DuplicateKey, 3),
     (b"1 . mandatory=key123", ScanError::MandatoryMissing, 3),
+    (
+        b"1 foo.example.com. key123=abc key123=def",
+        ScanError::DuplicateKey,
+        3,
+    ),
+    (b"1 foo.example.com. mandatory", ScanError::MissingValue, 2),
+    (b"1 foo.example.com. alpn", ScanError::MissingValue, 2),
+    (b"1 foo.example.com. port", ScanError::MissingValue, 2),
+    (b"1 foo.example.com. ipv4hint", ScanError::MissingValue, 2),
+    (b"1 foo.example.com. ipv6hint", ScanError::MissingValue, 2),
+    (
+        b"1 foo.example.com. mandatory=mandatory",
+        ScanError::KeyZeroInMandatory,
+        2,
+    ),
+    (
+        b"1 foo.example.com. mandatory=key123,key123 key123=abc",
+        ScanError::DuplicateItem,
+        2,
+    ),
 ];
 
 /// Whether a scan is refused by this fault, and so many tokens are taken then.
@@ -91,7 +134,7 @@ fn faults_have_their_places(rt: HostRuntime) {
 }
 
 /// Octets of data, and their text.
-const PRINTED: [(&[u8], &str); 5] = [
+const PRINTED: [(&[u8], &str); 7] = [
     (
         b"\x00\x01\x00\x00\x01\x00\x03\x02h2\x00\x03\x00\x02\x00\x35",
         "1 . alpn=h2 port=53",
@@ -102,6 +145,13 @@ const PRINTED: [(&[u8], &str); 5] = [
     (
         b"\x00\x10\x03foo\x07example\x03org\x00\x00\x01\x00\x0c\x08f\\oo,bar\x02h2",
         "16 foo.example.org. alpn=f\\\\\\\\oo\\\\,bar,h2",
+    ),
+    // octets that are no protocols
+    (b"\x00\x01\x00\x00\x01\x00\x02h2", "1 . key1=h2"),
+    (
+        b"\x00\x01\x00\x00\x01\x00\x06\x02h3\x02h2\x00\x04\x00\x08\xc0\x00\x02\x01\xc0\x00\x02\x02\
+            \x00\x06\x00\x10\x20\x01\x0d\xb8\0\0\0\0\0\0\0\0\0\0\0\x01",
+        "1 . alpn=h3,h2 ipv4hint=192.0.2.1,192.0.2.2 ipv6hint=2001:db8::1",
     ),
 ];
 

@@ -6,6 +6,8 @@ mod data_texts;
 #[cfg(test)]
 mod hostile;
 #[cfg(test)]
+mod lengths;
+#[cfg(test)]
 mod orders;
 #[cfg(test)]
 mod raw_texts;

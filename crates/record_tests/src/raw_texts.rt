@@ -3,7 +3,7 @@
 use dns_text::{Entry, EntryScanner, ScanError, Scanner};
 use std::alloc::Global;
 use svcb_rdata::Svcb;
-use wire_base::{ComposeRecordData, Parser};
+use wire_base::{ComposeRecordData, NoMemory, Parser};
 
 /// Octets of data in which a pair has no text of its type that gives it back, and their text.
 const RAW: [(&[u8], &str); 22] = [
@@ -48,10 +48,10 @@ const RAW: [(&[u8], &str); 22] = [
     (b"\0\x01\x04\0. \xff\x02a\\\0", "1 \\000\\.\\ \\255.a\\\\. "),
 ];
 
-/// Whether octets are data with this text, which is scanned as the same octets.
-fn is_shown_and_scanned(alloc: Global, octets: &[u8], text: &str) -> Result<bool, ScanError> {
+/// The text of the data that octets are, where it is scanned as the same octets.
+fn text_of(alloc: Global, octets: &[u8]) -> Result<Option<String>, ScanError> {
     let Ok(found) = Svcb::parse(alloc, &mut Parser::from_ref(octets)) else {
-        return Ok(false);
+        return Ok(None);
     };
     let shown = format!(in alloc; "{found}")?;
     let mut scanner = EntryScanner::new(Entry::from_text(shown.as_bytes())?);
@@ -59,12 +59,48 @@ fn is_shown_and_scanned(alloc: Global, octets: &[u8], text: &str) -> Result<bool
     scanner.check_end()?;
     let mut composed = Vec::new(alloc);
     again.compose_rdata(&mut composed)?;
-    Ok(shown.as_str() == text && composed.as_slice() == octets)
+    if composed.as_slice() != octets {
+        return Ok(None);
+    }
+    Ok(Some(shown))
+}
+
+/// Whether octets are data with this text, which is scanned as the same octets.
+fn is_shown_and_scanned(alloc: Global, octets: &[u8], text: &str) -> Result<bool, ScanError> {
+    match text_of(alloc, octets)? {
+        Some(shown) => Ok(shown.as_str() == text),
+        None => Ok(false),
+    }
 }
 
 #[test]
 fn any_octets_are_shown_and_scanned_back(rt: HostRuntime) {
     for (octets, text) in &RAW {
         assert!(rt; is_shown_and_scanned(rt.alloc(), octets, text) == Ok(true));
+    }
+}
+
+/// Record data without a target name, with the octets 0 to 255 under a key.
+fn with_each_octet(alloc: Global, key: u8) -> Result<Vec<u8>, NoMemory> {
+    let mut data = Vec::from_slice(alloc, b"\0\x01\0\0")?;
+    data.push(key)?;
+    data.extend_from_slice(b"\x01\0")?;
+    for octet in 0..=255u8 {
+        data.push(octet)?;
+    }
+    Ok(data)
+}
+
+/// Whether the octets 0 to 255 under a key are shown, as a value of its type or raw, and scanned back.
+fn is_each_octet_kept(alloc: Global, key: u8) -> Result<bool, ScanError> {
+    let data = with_each_octet(alloc, key)?;
+    let shown = text_of(alloc, &data)?;
+    Ok(shown.is_some())
+}
+
+#[test]
+fn each_octet_under_each_key_is_scanned_back(rt: HostRuntime) {
+    for key in 0..10u8 {
+        assert!(rt; is_each_octet_kept(rt.alloc(), key) == Ok(true), "{key}");
     }
 }

@@ -115,10 +115,9 @@ fn is_made(alloc: Global) -> Result<bool, ParseError> {
 /// The type number of record data that is read as data of a type, if it is.
 fn type_of<D: ParseRecordData>(alloc: Global, rtype: Rtype) -> Result<Option<u16>, ParseError> {
     let mut parser = Parser::from_ref(b"\x00\x01\x00");
-    match D::parse_rdata(alloc, rtype, &mut parser) {
-        Ok(Some(data)) => Ok(Some(data.rtype().to_int())),
-        Ok(None) => Ok(None),
-        Err(error) => Err(error),
+    match D::parse_rdata(alloc, rtype, &mut parser)? {
+        Some(data) => Ok(Some(data.rtype().to_int())),
+        None => Ok(None),
     }
 }
 

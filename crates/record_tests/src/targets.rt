@@ -1,7 +1,7 @@
 //! Record data within a message, with a compressed target and without one.
 
 use std::alloc::Global;
-use svcb_rdata::{SvcbRef, SvcbVariant};
+use svcb_rdata::{RebuildError, SvcbRef, SvcbVariant, rebuild_svcb};
 use wire_base::{NoMemory, ParseError, Parser};
 
 /// Messages, the place of record data of the target FoO, and whether the target is compressed.
@@ -56,4 +56,63 @@ fn fault_of(alloc: Global, len: u16) -> Result<Option<ParseError>, ParseError> {
 fn record_data_has_65_535_octets_at_most_uncompressed(rt: HostRuntime) {
     assert_eq!(rt; fault_of(rt.alloc(), 65524), Ok(None));
     assert_eq!(rt; fault_of(rt.alloc(), 65525), Ok(Some(ParseError::Form)));
+}
+
+/// The root, 255 pointers, each to what stands before it, and record data whose target is a pointer to the pointer at
+/// place 256 + `low`.
+fn chain_of_pointers(low: u8) -> [u8; 515] {
+    let mut message = [0; 515];
+    for index in 0..255usize {
+        let target = (2 * index).saturating_sub(1);
+        message[2 * index + 1] = 0xc0 + (target / 256) as u8;
+        message[2 * index + 2] = (target % 256) as u8;
+    }
+    message[512] = 1;
+    message[513] = 0xc1;
+    message[514] = low;
+    message
+}
+
+/// What reading record data gives: the count of its target's octets, or its fault; and what rebuilding it gives: the count
+/// of all octets, or the refusal.
+type Lens = (Result<u16, ParseError>, Result<usize, RebuildError>);
+
+/// What reading and rebuilding the record data from a place on give.
+fn lens_at(alloc: Global, message: &[u8], start: usize) -> Result<Lens, ParseError> {
+    let mut parser = Parser::from_ref(message);
+    parser.seek(start)?;
+    let len = parser.remaining();
+    let found: Result<SvcbRef<'_, SvcbVariant>, ParseError> = SvcbRef::parse(&mut parser);
+    let rebuilt = rebuild_svcb(alloc, message, start, len, &[], 0);
+    Ok((
+        found.map(|found| found.target().compose_len()),
+        rebuilt.map(|done| done.octets.len()),
+    ))
+}
+
+/// What both give where the target has a fault of form.
+const REFUSED: Lens = (
+    Err(ParseError::Form),
+    Err(RebuildError::Parse(ParseError::Form)),
+);
+
+#[test]
+fn targets_have_255_pointers_at_most(rt: HostRuntime) {
+    // the last pointer but one stands at place 507, and the last at place 509
+    let message = chain_of_pointers(0xfb);
+    assert!(rt; lens_at(rt.alloc(), &message, 511) == Ok((Ok(1), Ok(3))));
+    let message = chain_of_pointers(0xfd);
+    assert!(rt; lens_at(rt.alloc(), &message, 511) == Ok(REFUSED));
+}
+
+#[test]
+fn targets_have_255_octets_at_most(rt: HostRuntime) {
+    // a priority, and labels of 63 octets, each of them 63 too
+    let mut data = [63; 258];
+    data[194] = 62;
+    data[257] = 0;
+    assert!(rt; lens_at(rt.alloc(), &data, 0) == Ok(REFUSED));
+    data[194] = 61;
+    data[256] = 0;
+    assert!(rt; lens_at(rt.alloc(), &data[..257], 0) == Ok((Ok(255), Ok(257))));
 }

@@ -4,8 +4,8 @@ use dns_text::{DisplayKind, Formatter, display_zonefile};
 use key_registry::SecurityAlgorithm;
 use registry::SvcParamKey;
 use std::alloc::Global;
-use wire_base::{Ipv4Addr, NoMemory, Octets, Rtype};
-use wire_records::{A, UnknownRecordData};
+use wire_base::{Ipv4Addr, Name, NoMemory, Octets, ParseError, Rtype};
+use wire_records::{A, Serial, UnknownRecordData};
 
 /// A block with a comment behind its first token.
 fn write_block(alloc: Global, kind: DisplayKind) -> Result<Octets, NoMemory> {
@@ -81,4 +81,30 @@ fn values_are_laid_out(rt: HostRuntime) {
         matches!(&found, Ok(texts)
         if texts.0.as_slice() == address && texts.1.as_slice() == any)
     );
+}
+
+/// A value's document, and, in a block, a name and what a value prints.
+fn write_values(alloc: Global, kind: DisplayKind) -> Result<Octets, ParseError> {
+    let name = Name::from_octets(Octets::from_slice(alloc, b"\x03a.b\x01c\x00")?)?;
+    let mut f = Formatter::new(alloc, kind);
+    f.write_show(&A::new(Ipv4Addr::new([192, 0, 2, 1])))?;
+    f.begin_block()?;
+    f.write_name(&name)?;
+    f.write_display(&Serial::from_int(2026))?;
+    f.end_block()?;
+    Ok(f.finish())
+}
+
+/// The kinds, and the text of these.
+const VALUES: [(DisplayKind, &[u8]); 2] = [
+    (DisplayKind::Tabbed, b"192.0.2.1\ta\\.b.c.\t2026"),
+    (DisplayKind::Multiline, b"192.0.2.1 ( a\\.b.c. 2026 )"),
+];
+
+#[test]
+fn values_are_written(rt: HostRuntime) {
+    for (kind, text) in &VALUES {
+        let found = write_values(rt.alloc(), *kind);
+        assert!(rt; matches!(&found, Ok(octets) if octets.as_slice() == *text));
+    }
 }

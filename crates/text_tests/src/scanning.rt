@@ -1,6 +1,6 @@
 //! The calls of a scanner: their answers, and where it stands after a refusal.
 
-use dns_text::{Entry, EntryScanner, ScanError, Scanner};
+use dns_text::{Entry, EntryScanner, ScanError, Scanner, Symbol};
 use registry::{IanaNumber, SvcParamKey};
 use std::alloc::Global;
 
@@ -157,4 +157,50 @@ fn goes_back(alloc: Global) -> Result<bool, ScanError> {
 #[test]
 fn tokens_are_taken_again(rt: HostRuntime) {
     assert!(rt; goes_back(rt.alloc()) == Ok(true));
+}
+
+/// Whether tokens are taken as their symbols, the last one without any, and none at the entry's end.
+fn takes_symbols(alloc: Global) -> Result<bool, ScanError> {
+    let entry = Entry::from_text(b"\\;a \"\"")?;
+    let mut scanner = EntryScanner::new(entry);
+    let first = scanner.scan_symbols(alloc)?;
+    let second = scanner.scan_symbols(alloc)?;
+    let end = scanner.scan_symbols(alloc);
+    let symbols = [
+        Symbol {
+            octet: b';',
+            escaped: true,
+        },
+        Symbol {
+            octet: b'a',
+            escaped: false,
+        },
+    ];
+    Ok(
+        first.as_slice() == symbols.as_slice()
+            && second.is_empty()
+            && matches!(end, Err(ScanError::EndOfEntry))
+            && scanner.taken() == 2,
+    )
+}
+
+#[test]
+fn symbols_are_scanned(rt: HostRuntime) {
+    assert!(rt; takes_symbols(rt.alloc()) == Ok(true));
+}
+
+/// Whether all tokens left are joined, and nothing at the entry's end.
+fn joins_the_rest(alloc: Global) -> Result<bool, ScanError> {
+    let entry = Entry::from_text(b"a ( \"b c\"\n\\100 )")?;
+    let mut scanner = EntryScanner::new(entry);
+    let _first = scanner.scan_octets(alloc)?;
+    let rest = scanner.scan_rest(alloc)?;
+    let nothing = scanner.scan_rest(alloc)?;
+    let joined: &[u8] = b"b cd";
+    Ok(rest.as_slice() == joined && nothing.is_empty() && scanner.taken() == 3)
+}
+
+#[test]
+fn the_rest_is_joined(rt: HostRuntime) {
+    assert!(rt; joins_the_rest(rt.alloc()) == Ok(true));
 }

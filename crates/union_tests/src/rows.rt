@@ -1,8 +1,9 @@
 //! A row for each type: its text, its octets and what is printed.
 
-use dns_text::{DisplayKind, Entry, EntryScanner, ScanError, display_zonefile};
+use dns_text::{DisplayKind, Entry, EntryScanner, ScanError, ZonefileFmt, display_zonefile};
 use rdata_union::{AllRecordData, ZoneRecordData};
 use std::alloc::Global;
+use std::fmt::Display;
 use wire_base::{
     ComposeRecordData, NoMemory, ParseError, ParseRecordData, Parser, RecordData, Rtype,
 };
@@ -103,34 +104,44 @@ const ROWS: [Row; 12] = [
     },
 ];
 
-/// The data of the one entry of a text.
-fn scanned(alloc: Global, rtype: u16, text: &[u8]) -> Result<ZoneRecordData, ScanError> {
-    let entry = Entry::from_text(text)?;
-    let mut scanner = EntryScanner::new(entry);
-    ZoneRecordData::scan(alloc, Rtype::from_int(rtype), &mut scanner)
+/// Data that is scanned.
+trait ScannedData: ComposeRecordData + Display + Drop + PartialEq + Sized + ZonefileFmt {
+    /// The data that all tokens left spell under the number of its type.
+    fn scanned(alloc: Global, rtype: Rtype, scanner: &mut EntryScanner) -> Result<Self, ScanError>;
 }
 
-/// Whether data of a type has these octets, and the copy of it too.
-fn has_octets(
-    alloc: Global,
-    found: &ZoneRecordData,
-    rtype: u16,
-    octets: &[u8],
-) -> Result<bool, NoMemory> {
-    let copy = found.try_clone(alloc)?;
+impl ScannedData for ZoneRecordData {
+    fn scanned(
+        alloc: Global,
+        rtype: Rtype,
+        scanner: &mut EntryScanner,
+    ) -> Result<ZoneRecordData, ScanError> {
+        ZoneRecordData::scan(alloc, rtype, scanner)
+    }
+}
+
+/// The data of the one entry of a text.
+fn scanned<D: ScannedData>(alloc: Global, rtype: u16, text: &[u8]) -> Result<D, ScanError> {
+    let entry = Entry::from_text(text)?;
+    let mut scanner = EntryScanner::new(entry);
+    D::scanned(alloc, Rtype::from_int(rtype), &mut scanner)
+}
+
+/// Whether data of the row's type has the row's octets.
+fn has_octets<D: ComposeRecordData>(alloc: Global, found: &D, row: &Row) -> Result<bool, NoMemory> {
     let mut target = Vec::new(alloc);
-    copy.compose_rdata(&mut target)?;
-    Ok(found.rtype().to_int() == rtype && *found == copy && target.as_slice() == octets)
+    found.compose_rdata(&mut target)?;
+    Ok(found.rtype().to_int() == row.rtype && target.as_slice() == row.octets)
 }
 
 /// Whether the text is scanned as the row's octets, and the data printed and laid out as the row says.
-fn is_scanned(alloc: Global, row: &Row) -> Result<bool, ScanError> {
-    let found = scanned(alloc, row.rtype, row.text)?;
+fn is_scanned<D: ScannedData>(alloc: Global, row: &Row) -> Result<bool, ScanError> {
+    let found: D = scanned(alloc, row.rtype, row.text)?;
     let printed = format!(in alloc; "{found}")?;
     let simple = display_zonefile(alloc, &found, DisplayKind::Simple)?;
-    let again = scanned(alloc, row.rtype, printed.as_bytes())?;
+    let again: D = scanned(alloc, row.rtype, printed.as_bytes())?;
     Ok(
-        has_octets(alloc, &found, row.rtype, row.octets)?
+        has_octets(alloc, &found, row)?
             && printed.as_str() == row.printed
             && simple.as_slice() == row.simple
             && found == again,
@@ -141,7 +152,7 @@ fn is_scanned(alloc: Global, row: &Row) -> Result<bool, ScanError> {
 fn are_scanned(alloc: Global) -> Result<bool, ScanError> {
     let mut are = true;
     for row in &ROWS {
-        are = are && is_scanned(alloc, row)?;
+        are = are && is_scanned::<ZoneRecordData>(alloc, row)?;
     }
     Ok(are)
 }
@@ -169,27 +180,31 @@ fn variant(found: &AllRecordData) -> Option<u16> {
     }
 }
 
+/// Whether the row's octets are read as the data, which has them.
+fn is_same<D: ComposeRecordData + ParseRecordData + PartialEq>(
+    alloc: Global,
+    data: &D,
+    row: &Row,
+) -> Result<bool, ParseError> {
+    let mut parser = Parser::from_ref(row.octets);
+    match D::parse_rdata(alloc, Rtype::from_int(row.rtype), &mut parser)? {
+        Some(found) => Ok(found == *data && has_octets(alloc, &found, row)?),
+        None => Ok(false),
+    }
+}
+
 /// Whether the row's octets are read as the variant of the row's number, by both types.
 fn is_read(alloc: Global, row: &Row) -> Result<bool, ParseError> {
+    let mut parser = Parser::from_ref(row.octets);
     let rtype = Rtype::from_int(row.rtype);
-    let mut parser = Parser::from_ref(row.octets);
     let found = AllRecordData::parse_any_rdata(alloc, rtype, &mut parser)?;
-    let left = parser.remaining();
-    let wanted = if row.rtype == 999 {
-        None
-    } else {
-        Some(row.rtype)
+    let is_unknown = row.rtype == 999;
+    let is_variant = match variant(&found) {
+        Some(number) => number == row.rtype,
+        None => is_unknown,
     };
-    let mut parser = Parser::from_ref(row.octets);
-    let Some(zone) = ZoneRecordData::parse_rdata(alloc, rtype, &mut parser)? else {
-        return Ok(false);
-    };
-    Ok(
-        left == 0
-            && variant(&found) == wanted
-            && has_octets(alloc, &zone, row.rtype, row.octets)?
-            && found.into_zone_data() == zone,
-    )
+    let zone = found.into_zone_data();
+    Ok(is_variant && parser.remaining() == 0 && is_same(alloc, &zone, row)?)
 }
 
 /// Whether all octets are read so.

@@ -12,6 +12,8 @@ mod scans;
 #[cfg(test)]
 mod texts;
 #[cfg(test)]
+mod value_scans;
+#[cfg(test)]
 mod values;
 #[cfg(test)]
 mod weight;

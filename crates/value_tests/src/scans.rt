@@ -3,27 +3,26 @@
 use registry::{ComposeSvcParamValue, SvcParamValue};
 use std::alloc::Global;
 use svcb_scan::{SvcParamValueScanIter, scan_param};
+use svcb_text::AllValues;
 use text_spec::ScanError;
-use wire_base::Octets;
 
-/// The key and the octets of the value that a token spells.
-fn scan(alloc: Global, token: &[u8]) -> Result<(u16, Octets), ScanError> {
+/// Whether a token spells a value of this key and these octets, and whether the value has a type.
+fn spells(
+    alloc: Global,
+    token: &[u8],
+    key: u16,
+    octets: &[u8],
+    has_type: bool,
+) -> Result<bool, ScanError> {
     let value = scan_param(alloc, token)?;
-    let mut octets = Vec::new(alloc);
-    value.compose_value(&mut octets)?;
-    Ok((u16::from(value.key()), Octets::from_vec(octets)))
+    let mut composed = Vec::new(alloc);
+    value.compose_value(&mut composed)?;
+    let is_unknown = matches!(&value, AllValues::Unknown(_));
+    Ok(u16::from(value.key()) == key && composed.as_slice() == octets && is_unknown != has_type)
 }
 
-/// Whether a token spells a value of this key and these octets.
-fn spells(alloc: Global, token: &[u8], key: u16, octets: &[u8]) -> bool {
-    match scan(alloc, token) {
-        Ok((found, value)) => found == key && value.as_slice() == octets,
-        Err(_) => false,
-    }
-}
-
-/// Tokens, and the key and octets of the values that they spell.
-const VALUES: [(&[u8], u16, &[u8]); 20] = [
+/// Tokens that spell values of a type, and their keys and octets. A key has one type.
+const TYPED: [(&[u8], u16, &[u8]); 13] = [
     (b"mandatory=port,alpn", 0, b"\0\x01\0\x03"),
     (b"alpn=h2,h3-19", 1, b"\x02h2\x05h3-19"),
     (b"alpn=a\\,b", 1, b"\x03a,b"),
@@ -45,8 +44,13 @@ const VALUES: [(&[u8], u16, &[u8]); 20] = [
     (b"dohpath", 7, b""),
     (b"ohttp=", 8, b""),
     (b"tls-supported-groups=29,23", 9, b"\0\x1d\0\x17"),
+];
+
+/// Tokens that spell any octets, and their keys and octets: of keys without a type, and of keys as numbers.
+const UNTYPED: [(&[u8], u16, &[u8]); 8] = [
     (b"pvd=a", 11, b"a"),
     (b"key1=h2", 1, b"h2"),
+    (b"key00001=h2", 1, b"h2"),
     (b"key0", 0, b""),
     (b"key00003=a", 3, b"a"),
     (b"key19=a=b", 19, b"a=b"),
@@ -56,15 +60,19 @@ const VALUES: [(&[u8], u16, &[u8]); 20] = [
 
 #[test]
 fn tokens_spell_values(rt: HostRuntime) {
-    for (token, key, octets) in &VALUES {
-        assert!(rt; spells(rt.alloc(), token, *key, octets));
+    for (token, key, octets) in &TYPED {
+        assert!(rt; spells(rt.alloc(), token, *key, octets, true) == Ok(true));
+    }
+    for (token, key, octets) in &UNTYPED {
+        assert!(rt; spells(rt.alloc(), token, *key, octets, false) == Ok(true));
     }
 }
 
 /// Tokens, and their first faults.
-const FAULTS: [(&[u8], ScanError); 36] = [
+const FAULTS: [(&[u8], ScanError); 45] = [
     (b"", ScanError::EmptyParam),
     (b"Port=1", ScanError::BadKeyChar),
+    (b"Foo=1", ScanError::BadKeyChar),
     (b"ALPN=h2", ScanError::BadKeyChar),
     (b"Key1=a", ScanError::BadKeyChar),
     (b"foo=1", ScanError::UnknownKey),
@@ -74,8 +82,10 @@ const FAULTS: [(&[u8], ScanError); 36] = [
     (b"mandatory", ScanError::MissingValue),
     (b"mandatory=mandatory", ScanError::KeyZeroInMandatory),
     (b"mandatory=key0", ScanError::KeyZeroInMandatory),
+    (b"mandatory=key0,key0", ScanError::KeyZeroInMandatory),
     (b"mandatory=key123,key123", ScanError::DuplicateItem),
     (b"mandatory=port,foo", ScanError::UnknownKey),
+    (b"mandatory=foo,a\\b", ScanError::UnknownKey),
     (b"mandatory=port,", ScanError::EmptyItem),
     (b"mandatory=po\\rt", ScanError::BadListEscape),
     (b"alpn=", ScanError::MissingValue),
@@ -88,15 +98,21 @@ const FAULTS: [(&[u8], ScanError); 36] = [
     (b"port=65536", ScanError::BadPort),
     (b"port=1,2", ScanError::BadPort),
     (b"ipv4hint", ScanError::MissingValue),
+    (b"ipv4hint=1\\.2", ScanError::BadListEscape),
     (b"ipv4hint=1.2.3", ScanError::BadAddress),
     (b"ipv4hint=1.2.3.4,,1", ScanError::EmptyItem),
     (b"ech=", ScanError::MissingValue),
     (b"ech=YQ", ScanError::BadBase64),
+    (b"ipv6hint", ScanError::MissingValue),
+    (b"ipv6hint=::1\\", ScanError::BadListEscape),
+    (b"ipv6hint=::1,", ScanError::EmptyItem),
     (b"ipv6hint=::1,1.2.3.4", ScanError::BadAddress),
     (b"dohpath=/\xff", ScanError::BadUtf8),
     (b"ohttp=1", ScanError::UnexpectedValue),
     (b"tls-supported-groups=", ScanError::MissingValue),
+    (b"tls-supported-groups=29,", ScanError::EmptyItem),
     (b"tls-supported-groups=29,23,29", ScanError::DuplicateItem),
+    (b"tls-supported-groups=29,29,x", ScanError::DuplicateItem),
     (b"tls-supported-groups=65536", ScanError::BadNumber),
     (b"tls-supported-groups=29,\\,", ScanError::BadListEscape),
 ];
@@ -109,36 +125,31 @@ fn other_tokens_have_their_first_fault(rt: HostRuntime) {
     }
 }
 
-/// The fault of a protocol of so many octets, if it has one.
-fn protocol_fault(alloc: Global, len: usize) -> Result<(), ScanError> {
-    let mut token = Vec::from_slice(alloc, b"alpn=")?;
-    for _ in 0..len {
-        token.push(b'a')?;
+/// Whether the next item is these octets without its escapes.
+fn next_is(
+    alloc: Global,
+    items: &mut SvcParamValueScanIter<'_>,
+    octets: &[u8],
+) -> Result<bool, ScanError> {
+    match items.next_item(alloc)? {
+        Some(item) => Ok(item.as_slice() == octets),
+        None => Ok(false),
     }
-    let _value = scan_param(alloc, token.as_slice())?;
-    Ok(())
 }
 
 #[test]
-fn a_protocol_has_at_most_255_octets(rt: HostRuntime) {
-    assert!(rt; protocol_fault(rt.alloc(), 255) == Ok(()));
-    assert!(rt; protocol_fault(rt.alloc(), 256) == Err(ScanError::LongItem));
-}
-
-/// The fault of so many octets under a key without a type, if they have one.
-fn value_fault(alloc: Global, len: usize) -> Result<(), ScanError> {
-    let mut token = Vec::from_slice(alloc, b"key65280=")?;
-    for _ in 0..len {
-        token.push(b'a')?;
-    }
-    let _value = scan_param(alloc, token.as_slice())?;
-    Ok(())
-}
-
-#[test]
-fn a_value_has_at_most_65535_octets(rt: HostRuntime) {
-    assert!(rt; value_fault(rt.alloc(), 65535) == Ok(()));
-    assert!(rt; value_fault(rt.alloc(), 65536) == Err(ScanError::LongValue));
+fn items_lose_their_escapes(rt: HostRuntime) {
+    let alloc = rt.alloc();
+    let mut items = SvcParamValueScanIter::from_slice(b"a\\,b,c\\\\,");
+    assert!(rt; next_is(alloc, &mut items, b"a,b") == Ok(true));
+    assert!(rt; next_is(alloc, &mut items, b"c\\") == Ok(true));
+    assert!(rt; next_is(alloc, &mut items, b"") == Err(ScanError::EmptyItem));
+    assert!(rt; next_is(alloc, &mut items, b"") == Err(ScanError::EmptyItem));
+    let mut items = SvcParamValueScanIter::from_slice(b"a\\b");
+    assert!(rt; next_is(alloc, &mut items, b"ab") == Err(ScanError::BadListEscape));
+    assert!(rt; next_is(alloc, &mut items, b"ab") == Err(ScanError::BadListEscape));
+    let mut items = SvcParamValueScanIter::from_slice(b"");
+    assert!(rt; matches!(items.next_item(alloc), Ok(None)));
 }
 
 #[test]

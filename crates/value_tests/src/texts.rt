@@ -1,12 +1,12 @@
 //! The texts of values (RFC 9460, section 7 and appendix D.2; RFC 9461, section 5).
 
-use registry::{BuildValueError, SvcParamKey};
+use registry::SvcParamKey;
 use std::alloc::Global;
 use std::fmt::Display;
 use svcb_list::{AlpnBuilder, Ipv4Hint, Ipv6Hint, Mandatory, TlsSupportedGroups};
 use svcb_scan::scan_param;
-use svcb_value::{DohPath, NoDefaultAlpn, Ohttp, Port};
-use wire_base::{Ipv4Addr, Ipv6Addr};
+use svcb_value::{DohPath, Ech, NoDefaultAlpn, Ohttp, Port};
+use wire_base::{Ipv4Addr, Ipv6Addr, Octets};
 
 /// Whether a value is printed so.
 fn is_printed<T: Display>(alloc: Global, value: &T, text: &str) -> bool {
@@ -14,11 +14,7 @@ fn is_printed<T: Display>(alloc: Global, value: &T, text: &str) -> bool {
 }
 
 /// Whether a value was made, and is printed so.
-fn is_made<T: Display + Drop>(
-    alloc: Global,
-    value: Result<T, BuildValueError>,
-    text: &str,
-) -> bool {
+fn is_made<T: Display + Drop, E: Drop>(alloc: Global, value: Result<T, E>, text: &str) -> bool {
     match value {
         Ok(value) => is_printed(alloc, &value, text),
         Err(_) => false,
@@ -40,6 +36,7 @@ fn lists_are_printed(rt: HostRuntime) {
     let mut protocols = AlpnBuilder::empty(alloc);
     assert!(rt; protocols.push(b"h2").is_ok() && protocols.push(b"h3-19").is_ok());
     assert!(rt; is_printed(alloc, &protocols.freeze(), "alpn=h2,h3-19"));
+    assert!(rt; is_printed(alloc, &AlpnBuilder::empty(alloc).freeze(), ""));
 }
 
 #[test]
@@ -63,6 +60,9 @@ fn other_values_are_printed(rt: HostRuntime) {
             "dohpath=/q{?dns}"
         )
     );
+    assert!(rt; is_made(alloc, DohPath::from_text(alloc, ""), "dohpath"));
+    let no_octets = Octets::from_vec(Vec::new(alloc));
+    assert!(rt; is_made(alloc, Ech::from_octets(no_octets), "ech"));
     assert!(rt; is_printed(alloc, &Port::new(53), "port=53"));
     assert!(rt; is_printed(alloc, &NoDefaultAlpn, "no-default-alpn"));
     assert!(rt; is_printed(alloc, &Ohttp, "ohttp"));

@@ -1,9 +1,15 @@
 //! A value type of another crate.
 
 ghost use Rattle.std.specs.Prelude.{◌≡◌, ℕ, ◌==◌, [], ◌∷◌, length, nat_lt, slice_index, Ok, Err, if◌then◌else◌};
+ghost use Rattle.std.specs.Option.{ok_or};
 ghost use Rattle.name_spec.specs.Octets.{Short};
+ghost use Rattle.registry.specs.Texts.{spelled_number};
+ghost use Rattle.text_spec.specs.declared.errors.ScanError.TheVariants.{BadNumber};
 
-use registry::{ComposeSvcParamValue, ParseSvcParamValue, SvcParamKey, SvcParamValue};
+use registry::{ComposeSvcParamValue, Integer, ParseSvcParamValue, SvcParamKey, SvcParamValue};
+use std::alloc::Global;
+use svcb_scan::ScanSvcParamValue;
+use text_spec::ScanError;
 use wire_base::{NoMemory, ParseError, Parser};
 
 /// A value of one octet under the first key for private use.
@@ -50,5 +56,26 @@ impl ComposeSvcParamValue for Weight {
     fn compose_value(&self, target: &mut Vec<u8>) -> Result<(), NoMemory> {
         target.push(self.0)?;
         Ok(())
+    }
+}
+
+impl ScanSvcParamValue for Weight {
+    ghost Seen = { ℕ };
+
+    ghost seen = { λ weight. weight.0 };
+
+    ghost takes = { λ key. key == 65280 };
+
+    ghost spelled = { λ _ text. ok_or (spelled_number 256 text) BadNumber };
+
+    fn value_from_scan_octets(
+        _alloc: Global,
+        key: SvcParamKey,
+        octs: &[u8],
+    ) -> Result<Option<Weight>, ScanError> {
+        if u16::from(key) != SvcParamKey::PRIVATE_RANGE_BEGIN {
+            return Ok(None);
+        }
+        Ok(Some(Weight(u8::from_text(octs).ok_or(ScanError::BadNumber)?)))
     }
 }

@@ -1,4 +1,4 @@
-//! Tests of messages, names and registries.
+//! Tests of messages, names, octets and registries.
 #![tactic(auto)]
 
 #[cfg(test)]
@@ -7,5 +7,7 @@ mod messages;
 mod names;
 #[cfg(test)]
 mod numbers;
+#[cfg(test)]
+mod parsers;
 #[cfg(test)]
 mod texts;
