@@ -1,9 +1,5 @@
-//! Tests of record data that ties a name to keys, digests and certificates.
+//! Tests of how record data that ties a name to keys, digests and certificates is compared, and of its readers.
 #![tactic(auto)]
 
 #[cfg(test)]
-mod limits;
-#[cfg(test)]
 mod orders;
-#[cfg(test)]
-mod records;

@@ -13,7 +13,7 @@ use wire_base::{ComposeRecordData, LongRecordData, NoMemory, Octets, ParseError,
 use wire_records::Serial;
 
 /// So many equal octets between others.
-fn filled(
+pub(crate) fn filled(
     alloc: Global,
     front: &[u8],
     octet: u8,

@@ -1,24 +1,11 @@
 //! The greatest IPSECKEY data.
 
+use crate::limits::filled;
 use dns_text::{Entry, EntryScanner, ScanError};
 use key_rdata::{Ipseckey, IpseckeyGateway};
 use key_registry::IpseckeyAlgorithm;
 use std::alloc::Global;
 use wire_base::{ComposeRecordData, NoMemory, Octets, ParseError, Parser};
-
-/// So many equal octets between others.
-fn filled(
-    alloc: Global,
-    front: &[u8],
-    octet: u8,
-    count: usize,
-    behind: &[u8],
-) -> Result<Vec<u8>, NoMemory> {
-    let mut octets = Vec::from_slice(alloc, front)?;
-    octets.resize(front.len().saturating_add(count), octet)?;
-    octets.extend_from_slice(behind)?;
-    Ok(octets)
-}
 
 /// The count of octets of the data whose text has so many letters of base64 between others.
 fn scanned_len(
