@@ -1,8 +1,29 @@
-//! Record data that ties a name to a digest: CDS (RFC 7344), SSHFP (RFC 4255), TLSA (RFC 6698) and ZONEMD (RFC 8976).
+//! Record data that ties a name to keys, digests and certificates: CDS and CDNSKEY (RFC 7344), SSHFP (RFC 4255), TLSA
+//! (RFC 6698), ZONEMD (RFC 8976) and OPENPGPKEY (RFC 7929).
 //!
-//! The types stand in `association_rdata`, over the one type that all records of this form share.
+//! Each type is [`FieldsData`] over its fixed fields, so all calls but constructors and readers stand once.
 #![tactic(auto)]
 
-pub use association_rdata::{
-    Cds, CdsFields, Sshfp, SshfpFields, Tlsa, TlsaFields, Zonemd, ZonemdFields,
-};
+mod association_fields;
+mod cdnskey;
+mod cds;
+mod comparisons;
+mod fields_data;
+mod form;
+mod last_field;
+mod octets;
+mod openpgpkey;
+mod sshfp;
+mod tlsa;
+mod zonemd;
+
+pub use association_fields::AssociationFields;
+pub use cdnskey::{Cdnskey, CdnskeyFields};
+pub use cds::{Cds, CdsFields};
+pub use fields_data::FieldsData;
+pub use form::Form;
+pub use last_field::LastText;
+pub use openpgpkey::{Openpgpkey, OpenpgpkeyFields};
+pub use sshfp::{Sshfp, SshfpFields};
+pub use tlsa::{Tlsa, TlsaFields};
+pub use zonemd::{Zonemd, ZonemdFields};

@@ -19,7 +19,7 @@ use Rattle.text_spec.specs.declared.errors.ScanError.TheVariants.{BadName, NoMem
 use Rattle.text_spec.specs.declared.lexeme.Symbol.{Symbol}
 use Rattle.text_spec.specs.NameTexts.{is_bare_octet, is_lone, onto_first, dotted_parts, without_final_dot, are_labels, if_labels}
 use Rattle.text_spec.specs.Scanning.{Answers, octets_of}
-use Rattle.dns_text.specs.Rows.{by_name}
+use Rattle.text_spec.specs.Rows.{by_name}
 use Rattle.dns_text.specs.Labels.{label_len, labels_of, lengths_and_labels, wire_of}
 
 -- ---- the first label

@@ -8,7 +8,7 @@ use Rattle.text_spec.specs.declared.errors.ScanError.{ScanError}
 use Rattle.text_spec.specs.declared.errors.ScanError.TheVariants.{NoMemory}
 use Rattle.text_spec.specs.declared.lexeme.Symbol.{Symbol}
 use Rattle.text_spec.specs.Scanning.{Scan, Scans, Answers, StandsAt, Scanned, octets_of, done, refused, rest_by, at_token, next_token, one, any_octets}
-use Rattle.dns_text.specs.Rows.{rest_octets}
+use Rattle.text_spec.specs.Rows.{rest_octets}
 
 -- a token that was taken is the first of those that were left
 next-octets : (tokens : List (List Symbol)) (n : ℕ) (next : List ℕ) → next_token any_octets tokens n ≡ Ok next

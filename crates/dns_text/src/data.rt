@@ -2,7 +2,7 @@
 
 ghost use Rattle.std.specs.Prelude.{◌≡◌, ◌<◌, ◌^◌, length, IfOk};
 ghost use Rattle.text_spec.specs.Scanning.{Scan, Scans, ScansPart};
-ghost use Rattle.dns_text.specs.Rows.{ipv4_address, ipv6_address, unknown_data};
+ghost use Rattle.text_spec.specs.Rows.{ipv4_address, ipv6_address, unknown_data};
 
 use crate::scanner::Scanner;
 use std::alloc::Global;

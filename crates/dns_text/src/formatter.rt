@@ -3,12 +3,12 @@
 ghost use Rattle.std.specs.Prelude.{◌≡◌, ◌<◌, ◌++◌, [], ◌∷◌, OnOk, OnErr, IfOk, IfSome, option_map};
 ghost use Rattle.std.specs.String.{string_bytes};
 ghost use Rattle.std.specs.Fmt.{decimal};
-ghost use Rattle.printed_spec.specs.Printed.{printed_name_with_dot};
+ghost use Rattle.name_spec.specs.Printed.{printed_name_with_dot};
 ghost use Rattle.wire_base.specs.Moving.{AppendsOctets};
 ghost use Rattle.registry.specs.Tables.{mnemonic_of};
 ghost use Rattle.text_spec.specs.Encodings.{base16_text, base64_text};
 ghost use Rattle.text_spec.specs.Layouts.{Token, Comment, BlockBegin, BlockEnd, empty_layout, separator, IsOneLine};
-ghost use Rattle.dns_text.specs.Documents.{number_items, number_comment};
+ghost use Rattle.text_spec.specs.Documents.{number_items, number_comment};
 ghost use Rattle.dns_text.specs.Writing.{Writes, Shows, with_bracket};
 
 use crate::zonefile::ZonefileFmt;

@@ -4,7 +4,7 @@ ghost use Rattle.std.specs.Prelude.{◌≡◌, ◌<◌, ◌≤◌, ◌++◌, ◌
 ghost use Rattle.text_spec.specs.NameTexts.{is_bare_octet, is_lone};
 ghost use Rattle.text_spec.specs.Scanning.{Answers, octets_of};
 ghost use Rattle.dns_text.specs.Labels.{label_len, wire_of};
-ghost use Rattle.dns_text.specs.Rows.{by_name};
+ghost use Rattle.text_spec.specs.Rows.{by_name};
 
 use std::alloc::Global;
 use text_spec::{ScanError, Symbol};

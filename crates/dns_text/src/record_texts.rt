@@ -2,11 +2,11 @@
 
 ghost use Rattle.std.specs.Prelude.{[], ◌∷◌, length, codes};
 ghost use Rattle.std.specs.Fmt.{decimal};
-ghost use Rattle.printed_spec.specs.Addresses.{ipv4_text, ipv6_text};
+ghost use Rattle.name_spec.specs.Addresses.{ipv4_text, ipv6_text};
 ghost use Rattle.text_spec.specs.Encodings.{base16_text};
 ghost use Rattle.text_spec.specs.Layouts.{Token};
 ghost use Rattle.text_spec.specs.LayoutLaws.{document-tokens};
-ghost use Rattle.dns_text.specs.Documents.{unknown_items};
+ghost use Rattle.text_spec.specs.Documents.{unknown_items};
 
 use crate::formatter::Formatter;
 use crate::zonefile::ZonefileFmt;

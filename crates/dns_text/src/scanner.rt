@@ -4,7 +4,7 @@ ghost use Rattle.std.specs.Prelude.{◌≡◌, ◌≤◌, ◌<◌, ◌^◌, ℕ,
 ghost use Rattle.registry.specs.Texts.{spelled_number};
 ghost use Rattle.text_spec.specs.Scanning.{Scan, Scans, Answers, one, any_octets, is_marked};
 ghost use Rattle.dns_text.specs.Parts.{place_after};
-ghost use Rattle.dns_text.specs.Rows.{number_below, number_by, name, rest_octets, rest_base64, rest_base16};
+ghost use Rattle.text_spec.specs.Rows.{number_below, number_by, name, rest_octets, rest_base64, rest_base16};
 
 use crate::encodings::{decode_base16, decode_base64};
 use crate::names::read_name;

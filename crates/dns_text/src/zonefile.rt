@@ -51,7 +51,7 @@ pub fn display_zonefile<T: ZonefileFmt>(
 /// A token: the name with its final dot.
 impl ZonefileFmt for Name {
     ghost use Rattle.std.specs.Prelude.{[], ◌∷◌};
-    ghost use Rattle.printed_spec.specs.Printed.{printed_name_with_dot};
+    ghost use Rattle.name_spec.specs.Printed.{printed_name_with_dot};
     ghost use Rattle.text_spec.specs.Layouts.{Token};
     ghost use Rattle.text_spec.specs.LayoutLaws.{document-tokens};
 

@@ -8,8 +8,8 @@
 //! To read the data of an HTTPS record where it stands in a message, and its port:
 //!
 //! ```
-//! use hollywhist::base::{ParseError, Parser};
-//! use hollywhist::rdata::svcb::{HttpsVariant, SvcbRef};
+//! use crate::base::{ParseError, Parser};
+//! use crate::rdata::svcb::{HttpsVariant, SvcbRef};
 //!
 //! fn port(octets: &[u8]) -> Result<Option<u16>, ParseError> {
 //!     let mut parser = Parser::from_ref(octets);
@@ -22,8 +22,8 @@
 //! To read the data of a record from the text of a zone file entry:
 //!
 //! ```
-//! use hollywhist::base::scan::{Entry, EntryScanner, ScanError, Scanner};
-//! use hollywhist::rdata::svcb::Https;
+//! use crate::base::scan::{Entry, EntryScanner, ScanError, Scanner};
+//! use crate::rdata::svcb::Https;
 //! use std::alloc::Global;
 //!
 //! fn data(alloc: Global, text: &[u8]) -> Result<Https, ScanError> {

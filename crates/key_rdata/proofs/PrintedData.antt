@@ -2,10 +2,10 @@
 use Rattle.std.proofs.Common.{◌≡◌, ◌∙◌, true, ℕ, List, [], ◌++◌, append_assoc}
 use Rattle.std.specs.Prelude.{codes}
 use Rattle.std.specs.Fmt.{decimal}
-use Rattle.association_spec.specs.declared.Encoding.TheVariants.{Base64}
-use Rattle.association_spec.specs.Ipseckeys.{Gateway, gateway_type, Ipseckey}
-use Rattle.association_spec.specs.Texts.{last_printed}
-use Rattle.association_spec.specs.IpseckeyTexts.{gateway_text, ipseckey_printed}
+use Rattle.record_spec.specs.declared.Encoding.TheVariants.{Base64}
+use Rattle.record_spec.specs.Ipseckeys.{Gateway, gateway_type, Ipseckey}
+use Rattle.record_spec.specs.Texts.{last_printed}
+use Rattle.record_spec.specs.IpseckeyTexts.{gateway_text, ipseckey_printed}
 
 regrouped : (p t a g k : List ℕ)
     → p ++ (codes " " ++ (t ++ (codes " " ++ (a ++ (codes " " ++ (g ++ (codes " " ++ k)))))))

@@ -6,7 +6,7 @@ use Rattle.text_spec.specs.declared.errors.ScanError.TheVariants.{BadNumber, Bad
 use Rattle.registry.specs.Texts.{spelled_number}
 use Rattle.text_spec.specs.Encodings.{base64_of}
 use Rattle.text_spec.specs.Scanning.{Scan, Scanned, Scans, octets_of, done, refused, at_token, next_token, by_octets}
-use Rattle.dns_text.specs.Rows.{number_below, rest_base64}
+use Rattle.text_spec.specs.Rows.{number_below, rest_base64}
 
 -- ---- a number
 

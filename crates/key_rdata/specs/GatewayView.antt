@@ -1,5 +1,5 @@
 -- Gateways, as contracts see them.
-use Rattle.association_spec.specs.Ipseckeys.{Gateway, NoGateway, Ipv4Gateway, Ipv6Gateway, NameGateway}
+use Rattle.record_spec.specs.Ipseckeys.{Gateway, NoGateway, Ipv4Gateway, Ipv6Gateway, NameGateway}
 use Rattle.key_rdata.specs.declared.gateway.IpseckeyGateway.{IpseckeyGateway}
 use Rattle.key_rdata.specs.declared.gateway.IpseckeyGateway.TheVariants as owned
 use Rattle.key_rdata.specs.declared.gateway_ref.GatewayRef.{GatewayRef}

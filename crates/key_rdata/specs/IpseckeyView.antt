@@ -1,6 +1,6 @@
 -- The data of IPSECKEY records, as contracts see it.
 use Rattle.std.specs.Prelude.{ℕ, List}
-use Rattle.association_spec.specs.Ipseckeys as spec
+use Rattle.record_spec.specs.Ipseckeys as spec
 use Rattle.key_rdata.specs.declared.gateway.IpseckeyGateway.{IpseckeyGateway}
 use Rattle.key_rdata.specs.declared.ipseckey_ref.IpseckeyRef.{IpseckeyRef}
 use Rattle.key_rdata.specs.GatewayView.{gateway_of, seen_gateway}

@@ -3,8 +3,8 @@ use Rattle.std.specs.Prelude.{List, [], ◌∷◌, ◌++◌, codes}
 use Rattle.std.specs.Fmt.{decimal}
 use Rattle.text_spec.specs.Encodings.{base64_text}
 use Rattle.text_spec.specs.Layouts.{Item, Token, Comment}
-use Rattle.association_spec.specs.Ipseckeys.{Ipseckey, gateway_type}
-use Rattle.association_spec.specs.IpseckeyTexts.{gateway_document, type_comment, algorithm_comment}
+use Rattle.record_spec.specs.Ipseckeys.{Ipseckey, gateway_type}
+use Rattle.record_spec.specs.IpseckeyTexts.{gateway_document, type_comment, algorithm_comment}
 
 abbrev pub precedence_items : Ipseckey → List Item
 precedence_items found = Token (decimal found.precedence) ∷ Comment (codes "precedence") ∷ []

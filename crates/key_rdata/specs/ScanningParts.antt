@@ -1,9 +1,9 @@
 -- A part of the scan of IPSECKEY data.
 use Rattle.std.specs.Prelude.{ℕ}
 use Rattle.text_spec.specs.Scanning.{Scanning, scan_then}
-use Rattle.dns_text.specs.Rows.{rest_base64}
-use Rattle.association_spec.specs.Ipseckeys.{Ipseckey}
-use Rattle.association_spec.specs.IpseckeyTexts.{scan_gateway, complete}
+use Rattle.text_spec.specs.Rows.{rest_base64}
+use Rattle.record_spec.specs.Ipseckeys.{Ipseckey}
+use Rattle.record_spec.specs.IpseckeyTexts.{scan_gateway, complete}
 
 -- the gateway and the key, and with the numbers the data
 abbrev pub scan_behind_numbers : ℕ → ℕ → ℕ → Scanning Ipseckey

@@ -1,12 +1,12 @@
 //! Gateways of IPSECKEY records.
 
 ghost use Rattle.std.specs.Prelude.{◌≡◌, ◌↔◌, ◌==◌, ◌≤◌, ◌+◌, ◌++◌, length, vec_len, vec_capacity, Err, IfOk, OnOk, OnErr, IsErrOf};
-ghost use Rattle.printed_spec.specs.Laws.{AreOctets};
+ghost use Rattle.name_spec.specs.AddressLaws.{AreOctets};
 ghost use Rattle.name_spec.specs.Octets.{Short, Form};
 ghost use Rattle.wire_base.specs.declared.errors.ParseError.TheVariants as errors;
 ghost use Rattle.wire_base.specs.Faults.{GivesCopy};
-ghost use Rattle.association_spec.specs.Ipseckeys.{gateway_type, gateway_wire, IsGateway};
-ghost use Rattle.association_spec.specs.IpseckeyWire.{gateway_read};
+ghost use Rattle.record_spec.specs.Ipseckeys.{gateway_type, gateway_wire, IsGateway};
+ghost use Rattle.record_spec.specs.IpseckeyWire.{gateway_read};
 ghost use Rattle.key_rdata.specs.GatewayView.{gateway_of};
 ghost use Rattle.key_rdata.specs.OctetsComparing.{octets_cmp};
 
@@ -54,7 +54,7 @@ impl IpseckeyGateway {
     }
 
     /// The count of octets in the data.
-    #[tactic(auto, using(association_spec::proofs::OctetLists::labels_octets))]
+    #[tactic(auto, using(record_spec::proofs::OctetLists::labels_octets))]
     pub fn rdlen(&self) -> u16
         ensures len { result ≡ length (gateway_wire (gateway_of self.now)) }
         ensures fits { result ≤ 255 }

@@ -1,7 +1,7 @@
 //! How gateways are compared.
 
 ghost use Rattle.std.specs.Prelude.{◌≡◌};
-ghost use Rattle.association_spec.specs.IpseckeyComparing.{gateway_cmp};
+ghost use Rattle.record_spec.specs.IpseckeyComparing.{gateway_cmp};
 ghost use Rattle.key_rdata.specs.GatewayView.{gateway_of};
 
 use crate::gateway::IpseckeyGateway;
@@ -12,9 +12,9 @@ use std::hash::{Hash, Hasher};
 impl PartialEq for IpseckeyGateway {
     ghost use Rattle.std.specs.Ordering.{on};
     ghost use Rattle.std.specs.Cmp.{on_per, partial_equiv_from_equiv};
-    ghost use Rattle.association_spec.specs.IpseckeyComparing.{is_same_gateway};
+    ghost use Rattle.record_spec.specs.IpseckeyComparing.{is_same_gateway};
     ghost use Rattle.key_rdata.specs.GatewayView.{gateway_of};
-    ghost use Rattle.association_spec.specs.IpseckeyOrders.{gateway_equivalence};
+    ghost use Rattle.record_spec.specs.IpseckeyOrders.{gateway_equivalence};
 
     ghost eq = { on gateway_of is_same_gateway };
 
@@ -34,7 +34,7 @@ impl PartialEq for IpseckeyGateway {
 impl Eq for IpseckeyGateway {
     ghost use Rattle.std.specs.Cmp.{on_equiv};
     ghost use Rattle.key_rdata.specs.GatewayView.{gateway_of};
-    ghost use Rattle.association_spec.specs.IpseckeyOrders.{gateway_equivalence};
+    ghost use Rattle.record_spec.specs.IpseckeyOrders.{gateway_equivalence};
 
     ghost laws = { on_equiv gateway_of gateway_equivalence };
 }
@@ -44,9 +44,9 @@ impl Eq for IpseckeyGateway {
 impl PartialOrd for IpseckeyGateway {
     ghost use Rattle.std.specs.Ordering.{on};
     ghost use Rattle.std.specs.Cmp.{on_po};
-    ghost use Rattle.association_spec.specs.IpseckeyComparing.{gateway_partial_cmp};
+    ghost use Rattle.record_spec.specs.IpseckeyComparing.{gateway_partial_cmp};
     ghost use Rattle.key_rdata.specs.GatewayView.{gateway_of};
-    ghost use Rattle.association_spec.specs.IpseckeyOrders.{gateway_partial_order};
+    ghost use Rattle.record_spec.specs.IpseckeyOrders.{gateway_partial_order};
 
     ghost partial_cmp = { on gateway_of gateway_partial_cmp };
 
@@ -65,7 +65,7 @@ impl PartialOrd for IpseckeyGateway {
 
 /// The type, and the address or the name's octets in lower case.
 impl Hash for IpseckeyGateway {
-    ghost use Rattle.association_spec.specs.IpseckeyComparing.{gateway_fed, same_gateway_fed};
+    ghost use Rattle.record_spec.specs.IpseckeyComparing.{gateway_fed, same_gateway_fed};
     ghost use Rattle.key_rdata.specs.GatewayView.{gateway_of};
 
     ghost hash_input = { λ gateway. gateway_fed (gateway_of gateway) };

@@ -3,8 +3,8 @@
 ghost use Rattle.std.specs.Prelude.{◌≡◌, ◌+◌, length, IfOk};
 ghost use Rattle.name_spec.specs.Names.{name_wire};
 ghost use Rattle.wire_base.specs.Faults.{Gives};
-ghost use Rattle.association_spec.specs.Ipseckeys.{NameGateway, gateway_wire};
-ghost use Rattle.association_spec.specs.IpseckeyWire.{gateway_read};
+ghost use Rattle.record_spec.specs.Ipseckeys.{NameGateway, gateway_wire};
+ghost use Rattle.record_spec.specs.IpseckeyWire.{gateway_read};
 ghost use Rattle.key_rdata.specs.GatewayView.{gateway_of, seen_gateway};
 
 use crate::gateway::IpseckeyGateway;

@@ -2,8 +2,8 @@
 
 ghost use Rattle.std.specs.Prelude.{◌↔◌, ◌<◌, Some, IsErrOf};
 ghost use Rattle.text_spec.specs.Scanning.{Scan, Scans};
-ghost use Rattle.association_spec.specs.IpseckeyTexts.{gateway_text, gateway_document, scan_gateway};
-ghost use Rattle.association_spec.specs.DocumentLaws.{document-gateway};
+ghost use Rattle.record_spec.specs.IpseckeyTexts.{gateway_text, gateway_document, scan_gateway};
+ghost use Rattle.record_spec.specs.DocumentLaws.{document-gateway};
 ghost use Rattle.key_rdata.specs.GatewayView.{gateway_of};
 
 use crate::gateway::IpseckeyGateway;

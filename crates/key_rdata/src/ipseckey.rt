@@ -5,9 +5,9 @@ ghost use Rattle.name_spec.specs.Octets.{Short, Form};
 ghost use Rattle.wire_base.specs.Faults.{GivesCopy};
 ghost use Rattle.wire_base.specs.Moving.{TakesAll};
 ghost use Rattle.wire_base.specs.declared.errors.ParseError.TheVariants as errors;
-ghost use Rattle.association_spec.specs.Ipseckeys as spec;
-ghost use Rattle.association_spec.specs.Ipseckeys.{gateway_type, lacks_key, ipseckey_wire, ipseckey_len};
-ghost use Rattle.association_spec.specs.IpseckeyWire.{ipseckey_read};
+ghost use Rattle.record_spec.specs.Ipseckeys as spec;
+ghost use Rattle.record_spec.specs.Ipseckeys.{gateway_type, lacks_key, ipseckey_wire, ipseckey_len};
+ghost use Rattle.record_spec.specs.IpseckeyWire.{ipseckey_read};
 ghost use Rattle.key_rdata.specs.GatewayView.{gateway_of};
 ghost use Rattle.key_rdata.specs.IpseckeyView.{ipseckey_of};
 
@@ -36,7 +36,7 @@ pub struct Ipseckey {
 }
 
 impl Model for Ipseckey {
-    ghost use Rattle.association_spec.specs.Ipseckeys as spec;
+    ghost use Rattle.record_spec.specs.Ipseckeys as spec;
     ghost use Rattle.key_rdata.specs.IpseckeyView.{ipseckey_of};
 
     ghost Value = { spec.Ipseckey };

@@ -6,8 +6,8 @@ use std::hash::{Hash, Hasher};
 
 /// All fields, the name of a gateway with ASCII case ignored.
 impl PartialEq for Ipseckey {
-    ghost use Rattle.association_spec.specs.IpseckeyComparing.{is_same_ipseckey};
-    ghost use Rattle.association_spec.specs.IpseckeyOrders.{ipseckey_equivalence};
+    ghost use Rattle.record_spec.specs.IpseckeyComparing.{is_same_ipseckey};
+    ghost use Rattle.record_spec.specs.IpseckeyOrders.{ipseckey_equivalence};
     ghost use Rattle.std.specs.Cmp.{partial_equiv_from_equiv};
 
     ghost eq = { is_same_ipseckey };
@@ -23,7 +23,7 @@ impl PartialEq for Ipseckey {
 }
 
 impl Eq for Ipseckey {
-    ghost use Rattle.association_spec.specs.IpseckeyOrders.{ipseckey_equivalence};
+    ghost use Rattle.record_spec.specs.IpseckeyOrders.{ipseckey_equivalence};
 
     ghost laws = { ipseckey_equivalence };
 }
@@ -32,8 +32,8 @@ impl Eq for Ipseckey {
 /// by octet.
 impl Ord for Ipseckey {
     ghost use Rattle.std.specs.Prelude.{refl};
-    ghost use Rattle.association_spec.specs.IpseckeyComparing.{ipseckey_cmp, same_ipseckey_ties};
-    ghost use Rattle.association_spec.specs.IpseckeyOrders.{ipseckey_total};
+    ghost use Rattle.record_spec.specs.IpseckeyComparing.{ipseckey_cmp, same_ipseckey_ties};
+    ghost use Rattle.record_spec.specs.IpseckeyOrders.{ipseckey_total};
 
     ghost cmp = { ipseckey_cmp };
 
@@ -56,8 +56,8 @@ impl Ord for Ipseckey {
 impl PartialOrd for Ipseckey {
     ghost use Rattle.std.specs.Ordering.{as_partial_cmp};
     ghost use Rattle.std.specs.Cmp.{po};
-    ghost use Rattle.association_spec.specs.IpseckeyComparing.{ipseckey_cmp, same_ipseckey_ties};
-    ghost use Rattle.association_spec.specs.IpseckeyOrders.{ipseckey_total};
+    ghost use Rattle.record_spec.specs.IpseckeyComparing.{ipseckey_cmp, same_ipseckey_ties};
+    ghost use Rattle.record_spec.specs.IpseckeyOrders.{ipseckey_total};
 
     ghost partial_cmp = { as_partial_cmp ipseckey_cmp };
 
@@ -70,7 +70,7 @@ impl PartialOrd for Ipseckey {
 
 /// All fields, the name of a gateway as its octets in lower case.
 impl Hash for Ipseckey {
-    ghost use Rattle.association_spec.specs.IpseckeyComparing.{ipseckey_fed, same_ipseckey_fed};
+    ghost use Rattle.record_spec.specs.IpseckeyComparing.{ipseckey_fed, same_ipseckey_fed};
 
     ghost hash_input = { ipseckey_fed };
 

@@ -2,8 +2,8 @@
 
 ghost use Rattle.std.specs.Prelude.{◌≡◌, ◌≤◌, IfOk};
 ghost use Rattle.wire_base.specs.Faults.{Gives};
-ghost use Rattle.association_spec.specs.Ipseckeys.{ipseckey_len};
-ghost use Rattle.association_spec.specs.IpseckeyWire.{ipseckey_read};
+ghost use Rattle.record_spec.specs.Ipseckeys.{ipseckey_len};
+ghost use Rattle.record_spec.specs.IpseckeyWire.{ipseckey_read};
 ghost use Rattle.key_rdata.specs.IpseckeyView.{seen_ipseckey};
 
 use crate::gateway_ref::GatewayRef;

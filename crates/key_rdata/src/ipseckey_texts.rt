@@ -2,17 +2,17 @@
 
 ghost use Rattle.std.specs.Prelude.{◌≡◌, ◌+◌, false, length, Some, IfOk, OnOk, IsErrOf};
 ghost use Rattle.text_spec.specs.Scanning.{Scan, Scans, ScansPart};
-ghost use Rattle.association_spec.specs.Ipseckeys.{lacks_key};
-ghost use Rattle.association_spec.specs.IpseckeyTexts.{scan_ipseckey, ipseckey_printed, ipseckey_document};
+ghost use Rattle.record_spec.specs.Ipseckeys.{lacks_key};
+ghost use Rattle.record_spec.specs.IpseckeyTexts.{scan_ipseckey, ipseckey_printed, ipseckey_document};
 ghost use Rattle.dns_text.specs.Writing.{Shows};
-ghost use Rattle.association_spec.specs.DocumentLaws.{document-ipseckey};
+ghost use Rattle.record_spec.specs.DocumentLaws.{document-ipseckey};
 ghost use Rattle.key_rdata.specs.ScanningParts.{scan_behind_numbers};
 ghost use Rattle.key_rdata.specs.LayoutParts.{fields_items, numbers_items, precedence_items, type_items, algorithm_items, key_items};
 
 use crate::gateway::IpseckeyGateway;
 use crate::ipseckey::{Ipseckey, lacks_key};
-use association_rdata::LastText;
-use association_spec::Encoding;
+use digest_rdata::LastText;
+use record_spec::Encoding;
 use dns_text::{Formatter, Scanner, ZonefileFmt};
 use key_registry::{IpseckeyAlgorithm, IpseckeyGatewayType};
 use std::alloc::Global;

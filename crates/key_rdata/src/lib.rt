@@ -1,6 +1,6 @@
 //! Record data that ties a name to a key: IPSECKEY (RFC 4025), CDNSKEY (RFC 7344) and OPENPGPKEY (RFC 7929).
 //!
-//! `Cdnskey` and `Openpgpkey` stand in `association_rdata`, over the one type that all records of their form share.
+//! `Cdnskey` and `Openpgpkey` stand in `digest_rdata`, over the one type that all records of their form share.
 #![tactic(auto)]
 
 mod gateway;
@@ -12,6 +12,6 @@ mod ipseckey_comparisons;
 mod ipseckey_ref;
 mod ipseckey_texts;
 
-pub use association_rdata::{Cdnskey, CdnskeyFields, Openpgpkey, OpenpgpkeyFields};
+pub use digest_rdata::{Cdnskey, CdnskeyFields, Openpgpkey, OpenpgpkeyFields};
 pub use gateway::IpseckeyGateway;
 pub use ipseckey::Ipseckey;

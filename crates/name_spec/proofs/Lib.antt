@@ -4,3 +4,4 @@ pub mod NameOrders
 pub mod OctetLaws
 pub mod NameTruncation
 mod Vectors
+pub mod AddressTexts

@@ -5,3 +5,6 @@ pub mod OwnedNames
 pub mod NameOrderLaws
 pub mod CanonicalOrder
 pub mod Laws
+pub mod Printed
+pub mod Addresses
+pub mod AddressLaws

@@ -1,5 +1,6 @@
-//! Laws of the definitions of names, each proved for all arguments. The functions do nothing when they run.
+//! Laws of the definitions of names and of the texts of addresses, each proved for all arguments. The functions do nothing when they run.
 
+// Names.
 ghost use Rattle.name_spec.specs.Laws.{NameByStep, PointedByStep, NameHasLabels, NameReadBack, NameInReadBack, NameInWire};
 
 /// `name_at` is `name_step` of itself, so the number of steps in its definition is of no account.
@@ -30,4 +31,27 @@ pub fn name_in_read_back()
 /// Octets that are wholly a name are the octets of that name.
 pub fn name_in_wire()
     ensures { NameInWire }
+{}
+
+// Texts of addresses.
+ghost use Rattle.name_spec.specs.AddressLaws.{Ipv4ByGrammar, Ipv6ByGrammar, Ipv4ReadBack, Ipv6ReadBack};
+
+/// A text is read as an IPv4 address exactly where the grammar has it as that address.
+pub fn ipv4_by_grammar()
+    ensures { Ipv4ByGrammar }
+{}
+
+/// A text is read as an IPv6 address exactly where the grammar has it as that address.
+pub fn ipv6_by_grammar()
+    ensures { Ipv6ByGrammar }
+{}
+
+/// The printed text of four octets is read as these octets.
+pub fn ipv4_read_back()
+    ensures { Ipv4ReadBack }
+{}
+
+/// The printed text of 16 octets is read as these octets.
+pub fn ipv6_read_back()
+    ensures { Ipv6ReadBack }
 {}

@@ -7,7 +7,7 @@ use Rattle.wire_base.specs.RecordReading.{DataRead, DataAnswers}
 use Rattle.wire_base.specs.declared.errors.ParseError.{ParseError}
 use Rattle.wire_base.specs.declared.errors.ParseError.TheVariants.{ShortInput, NoMemory}
 use Rattle.wire_base.specs.declared.errors.ParseError.TheVariants as errors
-use Rattle.union_spec.specs.RecordData.{RecordData}
+use Rattle.record_spec.specs.RecordData.{RecordData}
 use Rattle.rdata_union.specs.Views.{value_read}
 
 module _ {X : Type 0} (view : X → RecordData) where

@@ -14,12 +14,12 @@ use Rattle.name_spec.specs.OwnedNames.{from_last, name_cmp}
 use Rattle.svcb_spec.specs.Params.{wire}
 use Rattle.svcb_spec.specs.Records.{Record}
 use Rattle.svcb_rdata.specs.Comparing as svcb
-use Rattle.association_spec.specs.Rows.{Row, Data, sshfp, tlsa, cds, cdnskey, openpgpkey, zonemd}
-use Rattle.association_spec.specs.Comparing as fields
-use Rattle.association_spec.specs.Ipseckeys as ipseckeys
-use Rattle.association_spec.specs.IpseckeyComparing.{is_same_ipseckey, ipseckey_cmp, ipseckey_fed, same_ipseckey_ties, same_ipseckey_fed}
-use Rattle.association_spec.specs.IpseckeyOrders.{ipseckey_total}
-use Rattle.union_spec.specs.RecordData.{RecordData, A, Aaaa, Sshfp, Ipseckey, Tlsa, Cds, Cdnskey, Openpgpkey, Zonemd, Svcb, Https, Unknown, rtype_of}
+use Rattle.record_spec.specs.Rows.{Row, Data, sshfp, tlsa, cds, cdnskey, openpgpkey, zonemd}
+use Rattle.record_spec.specs.Comparing as fields
+use Rattle.record_spec.specs.Ipseckeys as ipseckeys
+use Rattle.record_spec.specs.IpseckeyComparing.{is_same_ipseckey, ipseckey_cmp, ipseckey_fed, same_ipseckey_ties, same_ipseckey_fed}
+use Rattle.record_spec.specs.IpseckeyOrders.{ipseckey_total}
+use Rattle.record_spec.specs.RecordData.{RecordData, A, Aaaa, Sshfp, Ipseckey, Tlsa, Cds, Cdnskey, Openpgpkey, Zonemd, Svcb, Https, Unknown, rtype_of}
 
 -- ---- what data holds, whatever its type
 

@@ -2,15 +2,15 @@
 use Rattle.std.specs.Prelude.{[], ◌∷◌, Result, Ok, Err}
 use Rattle.name_spec.specs.Octets.{Fault}
 use Rattle.wire_base.specs.RecordReading.{DataRead}
-use Rattle.association_rdata.specs.declared.sshfp.SshfpFields.{SshfpFields}
-use Rattle.association_rdata.specs.declared.tlsa.TlsaFields.{TlsaFields}
-use Rattle.association_rdata.specs.declared.cds.CdsFields.{CdsFields}
-use Rattle.association_rdata.specs.declared.cdnskey.CdnskeyFields.{CdnskeyFields}
-use Rattle.association_rdata.specs.declared.openpgpkey.OpenpgpkeyFields.{OpenpgpkeyFields}
-use Rattle.association_rdata.specs.declared.zonemd.ZonemdFields.{ZonemdFields}
-use Rattle.association_rdata.specs.FieldsView.{FieldsView, data_of}
-use Rattle.association_spec.specs.Rows.{Data}
-use Rattle.union_spec.specs.RecordData as spec
+use Rattle.digest_rdata.specs.declared.sshfp.SshfpFields.{SshfpFields}
+use Rattle.digest_rdata.specs.declared.tlsa.TlsaFields.{TlsaFields}
+use Rattle.digest_rdata.specs.declared.cds.CdsFields.{CdsFields}
+use Rattle.digest_rdata.specs.declared.cdnskey.CdnskeyFields.{CdnskeyFields}
+use Rattle.digest_rdata.specs.declared.openpgpkey.OpenpgpkeyFields.{OpenpgpkeyFields}
+use Rattle.digest_rdata.specs.declared.zonemd.ZonemdFields.{ZonemdFields}
+use Rattle.digest_rdata.specs.FieldsView.{FieldsView, data_of}
+use Rattle.record_spec.specs.Rows.{Data}
+use Rattle.record_spec.specs.RecordData as spec
 use Rattle.rdata_union.specs.declared.all_data.AllRecordData.{AllRecordData}
 use Rattle.rdata_union.specs.declared.all_data.AllRecordData.TheVariants as all
 use Rattle.rdata_union.specs.declared.zone_data.ZoneRecordData.{ZoneRecordData}

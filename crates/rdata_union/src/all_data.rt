@@ -5,7 +5,7 @@ ghost use Rattle.name_spec.specs.Octets.{Short, Form};
 ghost use Rattle.wire_base.specs.Faults.{GivesCopy};
 ghost use Rattle.wire_base.specs.RecordReading.{place_behind};
 ghost use Rattle.wire_base.specs.declared.errors.ParseError.TheVariants as errors;
-ghost use Rattle.union_spec.specs.Reading.{union_read};
+ghost use Rattle.record_spec.specs.UnionReading.{union_read};
 ghost use Rattle.rdata_union.specs.Views.{data_of_all, data_of_zone, data_seen, value_read};
 
 use crate::data_ref::RecordDataRef;

@@ -1,10 +1,10 @@
 //! Data of records of any type as record data, and as text.
 
 ghost use Rattle.std.specs.Prelude.{◌≡◌, true, Some, refl};
-ghost use Rattle.union_spec.specs.RecordData.{RecordData, rtype_of, union_wire};
-ghost use Rattle.union_spec.specs.Reading.{union_read};
-ghost use Rattle.union_spec.specs.Texts.{union_printed};
-ghost use Rattle.union_spec.specs.DocumentLaws.{union_document, document-union};
+ghost use Rattle.record_spec.specs.RecordData.{RecordData, rtype_of, union_wire};
+ghost use Rattle.record_spec.specs.UnionReading.{union_read};
+ghost use Rattle.record_spec.specs.UnionTexts.{union_printed};
+ghost use Rattle.record_spec.specs.UnionDocumentLaws.{union_document, document-union};
 ghost use Rattle.rdata_union.specs.Views.{data_of_all};
 
 use crate::all_data::AllRecordData;

@@ -6,11 +6,11 @@ ghost use Rattle.std.specs.Ordering.{nat_cmp};
 ghost use Rattle.std.specs.Cmp.Lexicographic.{slice_cmp};
 ghost use Rattle.name_spec.specs.CanonicalOrder.{canonical_order};
 ghost use Rattle.svcb_spec.specs.Records.{rdata};
-ghost use Rattle.association_spec.specs.Rows.{sshfp, tlsa, cds, cdnskey, zonemd};
-ghost use Rattle.association_spec.specs.Wire.{data_wire};
-ghost use Rattle.association_spec.specs.Ipseckeys.{gateway_wire, ipseckey_wire};
+ghost use Rattle.record_spec.specs.Rows.{sshfp, tlsa, cds, cdnskey, zonemd};
+ghost use Rattle.record_spec.specs.Wire.{data_wire};
+ghost use Rattle.record_spec.specs.Ipseckeys.{gateway_wire, ipseckey_wire};
 ghost use Rattle.key_rdata.specs.GatewayView.{gateway_of};
-ghost use Rattle.union_spec.specs.RecordData.{rtype_of, union_wire};
+ghost use Rattle.record_spec.specs.RecordData.{rtype_of, union_wire};
 ghost use Rattle.rdata_union.specs.Fronts.{ComparesFront};
 ghost use Rattle.rdata_union.specs.Views.{data_seen, sshfp_of, tlsa_of, cds_of, cdnskey_of, zonemd_of};
 

@@ -4,9 +4,9 @@ ghost use Rattle.std.specs.Prelude.{◌≡◌, Some, length, IfOk};
 ghost use Rattle.std.specs.List.{fold};
 ghost use Rattle.dns_text.specs.Writing.{Shows};
 ghost use Rattle.wire_base.specs.Moving.{AppendsOctets};
-ghost use Rattle.union_spec.specs.RecordData.{rtype_of, union_wire};
-ghost use Rattle.union_spec.specs.Texts.{union_printed};
-ghost use Rattle.union_spec.specs.DocumentLaws.{union_document};
+ghost use Rattle.record_spec.specs.RecordData.{rtype_of, union_wire};
+ghost use Rattle.record_spec.specs.UnionTexts.{union_printed};
+ghost use Rattle.record_spec.specs.UnionDocumentLaws.{union_document};
 ghost use Rattle.rdata_union.specs.Views.{data_of_all, data_seen};
 ghost use Rattle.rdata_union.specs.Comparing.{is_same_data, union_cmp, union_fed, unknown_rank};
 

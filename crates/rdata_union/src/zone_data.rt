@@ -2,7 +2,7 @@
 
 ghost use Rattle.std.specs.Prelude.{◌≡◌, IfOk};
 ghost use Rattle.text_spec.specs.Scanning.{Scans, ScansPart};
-ghost use Rattle.union_spec.specs.Texts.{scan_fields, scan_any, union_scan};
+ghost use Rattle.record_spec.specs.UnionTexts.{scan_fields, scan_any, union_scan};
 ghost use Rattle.rdata_union.specs.Views.{data_of_zone, data_seen};
 
 use crate::data_ref::RecordDataRef;

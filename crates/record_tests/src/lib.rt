@@ -1,21 +1,29 @@
-//! Tests of record data of SVCB and HTTPS and of rebuilding it, and the texts of errors.
+//! Tests of the data of the other records and of records of any type: worked inputs, limits, orders, layouts and copies.
 #![tactic(auto)]
 
 #[cfg(test)]
-mod data_texts;
+mod field_orders;
 #[cfg(test)]
-mod hostile;
+mod ipseckey_limits;
 #[cfg(test)]
-mod lengths;
+mod ipseckey_octets;
 #[cfg(test)]
-mod orders;
+mod ipseckey_orders;
 #[cfg(test)]
-mod raw_texts;
+mod ipseckey_texts;
 #[cfg(test)]
-mod rebuilding;
+mod layouts;
 #[cfg(test)]
-mod records;
+mod limits;
 #[cfg(test)]
-mod targets;
+mod record_copies;
 #[cfg(test)]
-mod texts;
+mod union_copies;
+#[cfg(test)]
+mod union_faults;
+#[cfg(test)]
+mod union_orders;
+#[cfg(test)]
+mod worked_records;
+#[cfg(test)]
+mod worked_rows;

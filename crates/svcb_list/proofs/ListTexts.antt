@@ -4,9 +4,9 @@ use Rattle.std.specs.List.{flat_map, join_with_byte}
 use Rattle.std.specs.Fmt.{HasWritten}
 use Rattle.std.specs.declared.fmt.Formatter.{Formatter}
 use Rattle.std.proofs.lemmas.Grind.{flat_map-append}
-use Rattle.printed_spec.specs.Printed.{is_special, printed_octet, printed_octets}
-use Rattle.param_text_spec.specs.ListTexts.{is_escaped_in_item, escaped_item}
-use Rattle.param_text_spec.specs.PrintedValues.{with_items}
+use Rattle.name_spec.specs.Printed.{is_special, printed_octet, printed_octets}
+use Rattle.svcb_spec.specs.ListTexts.{is_escaped_in_item, escaped_item}
+use Rattle.svcb_spec.specs.PrintedValues.{with_items}
 
 -- ---- items
 

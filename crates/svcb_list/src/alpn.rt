@@ -4,9 +4,9 @@ ghost use Rattle.std.specs.Prelude.{◌≡◌, ◌<◌, ◌∷◌, Some, true, �
 ghost use Rattle.svcb_spec.specs.Values as values;
 ghost use Rattle.svcb_list.specs.Holding.{protocols_hold};
 ghost use Rattle.svcb_spec.specs.ReadingValues.{protocols, protocols_fault, are_whole};
-ghost use Rattle.printed_spec.specs.Printed.{printed_octets};
-ghost use Rattle.param_text_spec.specs.ListTexts.{escaped_item};
-ghost use Rattle.param_text_spec.specs.PrintedValues.{value_printed};
+ghost use Rattle.name_spec.specs.Printed.{printed_octets};
+ghost use Rattle.svcb_spec.specs.ListTexts.{escaped_item};
+ghost use Rattle.svcb_spec.specs.PrintedValues.{value_printed};
 
 use crate::item_iter::ItemIter;
 use crate::item_list::{ItemList, ItemListRef};

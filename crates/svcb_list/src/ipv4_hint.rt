@@ -6,8 +6,8 @@ ghost use Rattle.svcb_list.specs.Holding.{addresses_hold};
 ghost use Rattle.svcb_list.specs.Building.{IsBuilt};
 ghost use Rattle.std.proofs.Common.{lit<};
 ghost use Rattle.svcb_spec.specs.ReadingValues.{parts, parts_fault};
-ghost use Rattle.printed_spec.specs.Addresses.{ipv4_text};
-ghost use Rattle.param_text_spec.specs.PrintedValues.{value_printed};
+ghost use Rattle.name_spec.specs.Addresses.{ipv4_text};
+ghost use Rattle.svcb_spec.specs.PrintedValues.{value_printed};
 
 use crate::fixed_item::compose_items;
 use crate::item_iter::ItemIter;

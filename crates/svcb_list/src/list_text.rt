@@ -2,9 +2,9 @@
 
 ghost use Rattle.std.specs.Prelude.{◌≡◌, ℕ, [], ◌∷◌, Some};
 ghost use Rattle.std.specs.Fmt.{WritesOnOk};
-ghost use Rattle.printed_spec.specs.Printed.{printed_octets};
-ghost use Rattle.param_text_spec.specs.ListTexts.{escaped_item};
-ghost use Rattle.param_text_spec.specs.PrintedValues.{value_printed};
+ghost use Rattle.name_spec.specs.Printed.{printed_octets};
+ghost use Rattle.svcb_spec.specs.ListTexts.{escaped_item};
+ghost use Rattle.svcb_spec.specs.PrintedValues.{value_printed};
 
 use crate::item_list::ItemListRef;
 use crate::list_type::ListItems;

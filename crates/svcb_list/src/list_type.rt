@@ -6,7 +6,7 @@ ghost use Rattle.wire_base.specs.Faults.{Gives};
 ghost use Rattle.name_spec.specs.Octets.{Fault};
 ghost use Rattle.svcb_spec.specs.Values.{Value, HasItems, key_of};
 ghost use Rattle.svcb_spec.specs.ReadingValues.{taking_all, whole_value};
-ghost use Rattle.param_text_spec.specs.PrintedValues.{value_printed, key_name, with_items};
+ghost use Rattle.svcb_spec.specs.PrintedValues.{value_printed, key_name, with_items};
 ghost use Rattle.svcb_list.specs.Reading.{HoldsValue};
 
 use registry::SvcParamKey;

@@ -5,7 +5,7 @@ ghost use Rattle.svcb_spec.specs.Values as values;
 ghost use Rattle.svcb_list.specs.Holding.{numbers_hold};
 ghost use Rattle.svcb_list.specs.Building.{IsBuilt};
 ghost use Rattle.svcb_spec.specs.ReadingValues.{numbers, parts_fault};
-ghost use Rattle.param_text_spec.specs.PrintedValues.{key_name, value_printed};
+ghost use Rattle.svcb_spec.specs.PrintedValues.{key_name, value_printed};
 
 use crate::fixed_item::compose_items;
 use crate::item_iter::ItemIter;

@@ -6,7 +6,7 @@ ghost use Rattle.svcb_list.specs.Holding.{numbers_hold, some_groups};
 ghost use Rattle.svcb_list.specs.Building.{IsBuiltNotEmpty};
 ghost use Rattle.svcb_spec.specs.ReadingValues.{numbers, groups_fault};
 ghost use Rattle.std.specs.Fmt.{decimal};
-ghost use Rattle.param_text_spec.specs.PrintedValues.{value_printed};
+ghost use Rattle.svcb_spec.specs.PrintedValues.{value_printed};
 
 use crate::fixed_item::compose_items;
 use crate::item_iter::ItemIter;

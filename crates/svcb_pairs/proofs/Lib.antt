@@ -1,3 +1,14 @@
+mod Tests
+mod HeldKeys
+mod OwnTexts
+mod Distinct
+mod PairTexts
+mod Documents
+pub mod Insertions
+pub mod OneMore
+pub mod MandatoryKeys
+pub mod NextTokens
+pub mod AllTokens
 pub mod Reading
 pub mod FirstPair
 pub mod Builds

@@ -1,3 +1,6 @@
+pub mod NumberSets
+pub mod SeenPair
+pub mod Holding
 pub mod Parameters
 pub mod ParameterLaws
 pub mod BuilderState

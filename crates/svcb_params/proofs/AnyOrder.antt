@@ -6,8 +6,8 @@ use Rattle.text_spec.specs.declared.errors.ScanError.{ScanError}
 use Rattle.text_spec.specs.declared.errors.ScanError.TheVariants.{DuplicateKey, MandatoryMissing}
 use Rattle.text_spec.specs.declared.lexeme.Symbol.{Symbol}
 use Rattle.text_spec.specs.Scanning.{Scan, Scans, Scanned, Answers, octets_of, scan_then, done, refused}
-use Rattle.param_text_spec.specs.ParamTexts.{spells, has_key, are_mandatory_there, map_of, values_at, params_of, params}
-use Rattle.param_text_laws.proofs.TokenOrders.{any_order}
+use Rattle.svcb_spec.specs.ParamTexts.{spells, has_key, are_mandatory_there, map_of, values_at, params_of, params}
+use Rattle.svcb_laws.proofs.TokenOrders.{any_order}
 use Rattle.svcb_params.specs.Scanned.{AnswersInAnyOrder}
 
 abbrev after_token : List Value → List (List Symbol) → ℕ → Result Value ScanError → Scanned (List Value)

@@ -4,7 +4,7 @@ use Rattle.svcb_spec.specs.Params.{Pairs}
 use Rattle.text_spec.specs.declared.errors.ScanError.{ScanError}
 use Rattle.text_spec.specs.declared.lexeme.Symbol.{Symbol}
 use Rattle.text_spec.specs.Scanning.{Scan, Answers, done}
-use Rattle.param_text_spec.specs.ParamTexts.{params_of}
+use Rattle.svcb_spec.specs.ParamTexts.{params_of}
 
 -- Where the tokens left are, in another order, tokens that spell a map, the answer is that map. Only want of memory may
 -- stand in its place.

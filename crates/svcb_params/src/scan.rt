@@ -3,18 +3,18 @@
 ghost use Rattle.std.specs.Prelude.{IfOk};
 ghost use Rattle.svcb_spec.specs.Params.{IsMap};
 ghost use Rattle.text_spec.specs.Scanning.{Scan, Scans};
-ghost use Rattle.param_text_spec.specs.ParamTexts.{params};
+ghost use Rattle.svcb_spec.specs.ParamTexts.{params};
 ghost use Rattle.svcb_params.specs.Scanned.{AnswersInAnyOrder};
 
 use crate::params::SvcParams;
 use dns_text::Scanner;
-use params_scan::scan_params;
+use svcb_pairs::scan_params;
 use std::alloc::Global;
 use text_spec::ScanError;
 
 impl SvcParams {
     /// The parameters that all tokens left of an entry spell, in any order; none where no token is left. Each token is
-    /// one parameter (RFC 9460, section 2.1), as `scan_param` of `svcb_scan` reads it.
+    /// one parameter (RFC 9460, section 2.1), as `scan_param` of `svcb_text` reads it.
     ///
     /// A token's own fault, as `scan_param` gives it, or else `DuplicateKey`, where a token before it has its key: the
     /// first such token refuses, and the scanner stands before it. `MandatoryMissing`: no token has a fault, one of

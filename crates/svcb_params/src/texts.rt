@@ -1,15 +1,15 @@
 //! Service parameters as text.
 
 ghost use Rattle.std.specs.Prelude.{◌≡◌, Some};
-ghost use Rattle.param_text_spec.specs.PrintedParams.{params_printed};
-ghost use Rattle.rdata_text_spec.specs.DataDocuments.{params_document};
-ghost use Rattle.rdata_text_spec.specs.DocumentLaws.{document-params};
+ghost use Rattle.svcb_spec.specs.PrintedParams.{params_printed};
+ghost use Rattle.svcb_spec.specs.DataDocuments.{params_document};
+ghost use Rattle.svcb_spec.specs.DataDocumentLaws.{document-params};
 ghost use Rattle.svcb_params.specs.ParamsView.{seen_params};
 
 use crate::params::SvcParams;
 use crate::params_ref::SvcParamsRef;
 use dns_text::{Formatter, ZonefileFmt};
-use params_print::ParamsText;
+use svcb_pairs::ParamsText;
 use std::fmt;
 use wire_base::NoMemory;
 

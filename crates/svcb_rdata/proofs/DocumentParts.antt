@@ -2,7 +2,7 @@
 use Rattle.std.proofs.Common.{◌≡◌, ℕ, List, [], ◌∷◌, ap, ap₂, ◌∙◌}
 use Rattle.std.specs.Prelude.{codes}
 use Rattle.std.specs.Fmt.{decimal}
-use Rattle.printed_spec.specs.Printed.{printed_name_with_dot}
+use Rattle.name_spec.specs.Printed.{printed_name_with_dot}
 use Rattle.svcb_spec.specs.Records.{Record}
 use Rattle.text_spec.specs.Layouts.{Item, Token, Comment, BlockBegin, Sheet, laid_out}
 

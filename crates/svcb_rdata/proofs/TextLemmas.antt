@@ -3,17 +3,17 @@ use Rattle.std.proofs.Common.{◌≡◌, ℕ, ◌≤◌, Ok, List, ◌++◌, len
 use Rattle.std.specs.Prelude.{Result}
 use Rattle.std.proofs.lemmas.List.{take-append-drop, length-take-le}
 use Rattle.name_spec.specs.Names.{name_wire}
-use Rattle.printed_spec.specs.Laws.{AreOctets}
+use Rattle.name_spec.specs.AddressLaws.{AreOctets}
 use Rattle.svcb_spec.specs.Params.{wire}
 use Rattle.svcb_spec.specs.Records.{Record, IsRecord}
 use Rattle.text_spec.specs.declared.errors.ScanError.{ScanError}
 use Rattle.text_spec.specs.declared.lexeme.Symbol.{Symbol}
 use Rattle.text_spec.specs.Pieces.{HasTokens}
 use Rattle.text_spec.specs.Scanning.{Scan, Answers}
-use Rattle.rdata_text_spec.specs.DataTexts.{data_printed, svcb_data}
-use Rattle.rdata_text_laws.specs.Laws.{IsData}
-use Rattle.rdata_text_laws.proofs.DataOctets.{is_data}
-use Rattle.rdata_text_laws.proofs.DataTexts.{text_again}
+use Rattle.svcb_spec.specs.DataTexts.{data_printed, svcb_data}
+use Rattle.svcb_laws.specs.DataTextLaws.{IsData}
+use Rattle.svcb_laws.proofs.DataOctets.{is_data}
+use Rattle.svcb_laws.proofs.DataTexts.{text_again}
 use Rattle.svcb_rdata.specs.Texts.{ReadsBack}
 
 -- the tokens left are scanned as the data

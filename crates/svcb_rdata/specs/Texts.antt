@@ -4,8 +4,8 @@ use Rattle.svcb_spec.specs.Records.{Record}
 use Rattle.text_spec.specs.declared.errors.ScanError.{ScanError}
 use Rattle.text_spec.specs.Pieces.{HasTokens}
 use Rattle.text_spec.specs.Scanning.{Scan, Answers}
-use Rattle.rdata_text_spec.specs.DataTexts.{data_printed}
-use Rattle.rdata_text_laws.specs.Laws.{IsData}
+use Rattle.svcb_spec.specs.DataTexts.{data_printed}
+use Rattle.svcb_laws.specs.DataTextLaws.{IsData}
 
 -- Where the tokens left are those of the printed text of some data, the answer is that data. Only want of memory may
 -- stand in its place.

@@ -2,12 +2,12 @@
 //! `svcb_spec::laws`.
 
 ghost use Rattle.std.specs.Prelude.{◌≡◌, Ok, length};
-ghost use Rattle.printed_spec.specs.Laws.{AreOctets};
+ghost use Rattle.name_spec.specs.AddressLaws.{AreOctets};
 ghost use Rattle.svcb_spec.specs.Records.{read};
 ghost use Rattle.wire_base.specs.Faults.{Gives};
 ghost use Rattle.svcb_rdata.specs.Reading.{record_pairs};
 ghost use Rattle.svcb_rdata.specs.Laws.{AcceptedRead, AreRebuilt};
-ghost use Rattle.rdata_text_laws.specs.Laws.{IsData};
+ghost use Rattle.svcb_laws.specs.DataTextLaws.{IsData};
 
 use crate::rdata::SvcbRdata;
 use crate::rebuild::read_record;
@@ -20,7 +20,7 @@ pub fn accepted_read()
     ensures { AcceptedRead }
 {}
 
-/// The parts of any data are made of octets, which is what the laws of `rdata_text_laws` on printed texts ask of it. The
+/// The parts of any data are made of octets, which is what the laws of `svcb_laws` on printed texts ask of it. The
 /// function does nothing when it runs.
 pub fn made_of_octets<V>(found: &SvcbRdata<V>)
     ensures { IsData found.now }

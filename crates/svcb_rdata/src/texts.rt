@@ -2,9 +2,9 @@
 
 ghost use Rattle.std.specs.Prelude.{◌≡◌, Some};
 ghost use Rattle.text_spec.specs.Scanning.{Scan, Scans, ScansPart};
-ghost use Rattle.rdata_text_spec.specs.DataTexts.{data_printed, svcb_data};
-ghost use Rattle.rdata_text_spec.specs.DataDocuments.{svcb_document};
-ghost use Rattle.rdata_text_spec.specs.DocumentLaws.{document-svcb};
+ghost use Rattle.svcb_spec.specs.DataTexts.{data_printed, svcb_data};
+ghost use Rattle.svcb_spec.specs.DataDocuments.{svcb_document};
+ghost use Rattle.svcb_spec.specs.DataDocumentLaws.{document-svcb};
 ghost use Rattle.svcb_rdata.specs.Texts.{ReadsBack};
 
 use crate::rdata::SvcbRdata;

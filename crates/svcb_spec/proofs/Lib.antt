@@ -1,3 +1,5 @@
+mod ParamTextVectors
+mod DataTextVectors
 pub mod PairLaws
 pub mod PartLaws
 pub mod WireLaws

@@ -1,3 +1,11 @@
+pub mod ListTexts
+pub mod ValueTexts
+pub mod ParamTexts
+pub mod PrintedValues
+pub mod PrintedParams
+pub mod DataTexts
+pub mod DataDocuments
+pub mod DataDocumentLaws
 pub mod Params
 pub mod Values
 pub mod ReadingValues

@@ -1,6 +1,8 @@
-//! What the octets of SVCB and HTTPS record data mean: definitions, and the laws that hold of them.
+//! What the octets of SVCB and HTTPS record data mean, and how they are written as text (RFC 9460): definitions, and the
+//! laws that hold of them.
 //!
-//! The definitions stand in `specs/`. They speak of whole numbers, lists of octets, and one map from keys to octets.
+//! The definitions stand in `specs/`. They speak of whole numbers, lists of octets, and one map from keys to octets; a
+//! text is its octets.
 #![tactic(auto)]
 
 pub mod laws;

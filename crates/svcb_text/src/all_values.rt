@@ -158,7 +158,7 @@ impl ComposeSvcParamValue for AllValues {
 /// The text of the value.
 impl fmt::Display for AllValues {
     ghost use Rattle.std.specs.Prelude.{Some};
-    ghost use Rattle.param_text_spec.specs.PrintedValues.{value_printed};
+    ghost use Rattle.svcb_spec.specs.PrintedValues.{value_printed};
     ghost use Rattle.svcb_text.specs.AllValues.{value_of};
 
     ghost output = { λ value. Some (value_printed (value_of value)) };

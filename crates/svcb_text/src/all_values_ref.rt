@@ -196,7 +196,7 @@ impl<'a> ComposeSvcParamValue for AllValuesRef<'a> {
 /// The text of the value that is viewed.
 impl<'a> fmt::Display for AllValuesRef<'a> {
     ghost use Rattle.std.specs.Prelude.{Some};
-    ghost use Rattle.param_text_spec.specs.PrintedValues.{value_printed};
+    ghost use Rattle.svcb_spec.specs.PrintedValues.{value_printed};
     ghost use Rattle.svcb_text.specs.AllValuesRef.{seen_view};
 
     ghost output = { λ view. Some (value_printed (seen_view view)) };

@@ -2,8 +2,8 @@
 use Rattle.std.proofs.Common.{◌≡◌, ℕ, ◌==◌, Bool, true, false, List, ◌∷◌, ◌++◌, length, refl, sym, ap, ◌∙◌}
 use Rattle.std.specs.Str.{IsUtf8, is_utf8}
 use Rattle.std.proofs.lemmas.Str.{IsUtf8-from_is_utf8, is_utf8-from_IsUtf8}
-use Rattle.printed_spec.specs.Printed.{printed_octets}
-use Rattle.param_text_spec.specs.PrintedValues.{opaque_key_name, opaque_text, utf8_or_printed}
+use Rattle.name_spec.specs.Printed.{printed_octets}
+use Rattle.svcb_spec.specs.PrintedValues.{opaque_key_name, opaque_text, utf8_or_printed}
 use Rattle.svcb_value.specs.PrintingLaws.{with_printed}
 
 -- octets that are UTF-8

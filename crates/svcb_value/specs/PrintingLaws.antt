@@ -3,9 +3,9 @@ use Rattle.std.proofs.Common.{◌≡◌, ℕ, ◌==◌, true, false, Bool, cond,
 use Rattle.std.specs.Str.{is_utf8}
 use Rattle.std.proofs.lemmas.Bool.Decides.{nat_tests}
 use Rattle.base64.specs.Rfc4648.{encode_symbols}
-use Rattle.printed_spec.specs.Printed.{Written, Plain, Escaped, Decimal, written, is_special, printed_as, printed_octets}
+use Rattle.name_spec.specs.Printed.{Written, Plain, Escaped, Decimal, written, is_special, printed_as, printed_octets}
 use Rattle.text_spec.specs.Encodings.{base64_text}
-use Rattle.param_text_spec.specs.PrintedValues.{with_text, utf8_or_printed}
+use Rattle.svcb_spec.specs.PrintedValues.{with_text, utf8_or_printed}
 use Rattle.svcb_value.specs.Printing.{key_and_text}
 
 -- a text that has octets where these have some

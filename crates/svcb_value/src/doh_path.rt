@@ -2,7 +2,7 @@
 
 ghost use Rattle.std.specs.Prelude.{◌≡◌, ◌<◌, ◌≤◌, codes, length, IfOk, IfErr, OnOk, refl};
 ghost use Rattle.svcb_spec.specs.Values as values;
-ghost use Rattle.param_text_spec.specs.PrintedValues.{utf8_or_printed};
+ghost use Rattle.svcb_spec.specs.PrintedValues.{utf8_or_printed};
 ghost use Rattle.svcb_value.specs.Building.{IsCause};
 ghost use Rattle.svcb_value.specs.PrintingLaws.{with_utf8};
 

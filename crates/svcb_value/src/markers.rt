@@ -2,7 +2,7 @@
 
 ghost use Rattle.std.specs.Prelude.{◌≡◌, ℕ, List, [], ◌==◌, Some, Ok, IsOk, OnOk};
 ghost use Rattle.svcb_spec.specs.Values as values;
-ghost use Rattle.param_text_spec.specs.PrintedValues.{value_printed};
+ghost use Rattle.svcb_spec.specs.PrintedValues.{value_printed};
 
 use registry::{ComposeSvcParamValue, ParseSvcParamValue, SvcParamKey, SvcParamValue};
 use std::fmt;

@@ -7,7 +7,7 @@ ghost use Rattle.svcb_spec.specs.ReadingValues.{taking_all, whole_value, long_fa
 ghost use Rattle.wire_base.specs.Faults.{GivesCopy};
 ghost use Rattle.wire_base.specs.Input.{left};
 ghost use Rattle.wire_base.specs.Moving.{TakesAll, AppendsOctets};
-ghost use Rattle.param_text_spec.specs.PrintedValues.{value_printed, key_name};
+ghost use Rattle.svcb_spec.specs.PrintedValues.{value_printed, key_name};
 ghost use Rattle.svcb_value.specs.Printing.{key_and_text};
 
 use crate::opaque_ref::OpaqueRef;

@@ -6,7 +6,7 @@ ghost use Rattle.svcb_spec.specs.ReadingValues.{taking_all, whole_value, long_fa
 ghost use Rattle.wire_base.specs.Faults.{Gives};
 ghost use Rattle.wire_base.specs.Input.{left};
 ghost use Rattle.wire_base.specs.Moving.{TakesAll, AppendsOctets};
-ghost use Rattle.param_text_spec.specs.PrintedValues.{value_printed};
+ghost use Rattle.svcb_spec.specs.PrintedValues.{value_printed};
 
 use crate::opaque::{OpaqueType, OpaqueValue};
 use registry::{

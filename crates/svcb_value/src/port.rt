@@ -7,7 +7,7 @@ ghost use Rattle.svcb_spec.specs.ReadingValues.{take_port};
 ghost use Rattle.wire_base.specs.Faults.{Gives};
 ghost use Rattle.wire_base.specs.Input.{left};
 ghost use Rattle.wire_base.specs.Moving.{TakesOctets, AppendsOctets};
-ghost use Rattle.param_text_spec.specs.PrintedValues.{value_printed};
+ghost use Rattle.svcb_spec.specs.PrintedValues.{value_printed};
 
 use registry::{ComposeSvcParamValue, Integer, ParseSvcParamValue, SvcParamKey, SvcParamValue};
 use std::fmt;

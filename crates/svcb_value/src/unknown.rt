@@ -9,7 +9,7 @@ ghost use Rattle.wire_base.specs.Input.{left};
 ghost use Rattle.wire_base.specs.Moving.{TakesAll, AppendsOctets, LacksRoom};
 ghost use Rattle.registry.specs.Reading.{behind};
 ghost use Rattle.svcb_value.specs.Parameters.{take_param, taking_param, param_len, param_wire};
-ghost use Rattle.param_text_spec.specs.PrintedValues.{value_printed};
+ghost use Rattle.svcb_spec.specs.PrintedValues.{value_printed};
 
 use crate::parameter::{compose_param, split_param};
 use crate::unknown_ref::UnknownSvcParamRef;

@@ -173,7 +173,7 @@ impl<'a> ComposeSvcParamValue for UnknownSvcParamRef<'a> {
 /// type is written by its number, as `key3`, since under its name stand values of the type alone.
 impl<'a> fmt::Display for UnknownSvcParamRef<'a> {
     ghost use Rattle.std.specs.Prelude.{Some};
-    ghost use Rattle.param_text_spec.specs.PrintedValues.{value_printed};
+    ghost use Rattle.svcb_spec.specs.PrintedValues.{value_printed};
     ghost use Rattle.svcb_value.specs.UnknownView.{seen_unknown};
 
     ghost output = { λ view. Some (value_printed (seen_unknown view)) };
@@ -194,7 +194,7 @@ struct OpaqueKey(SvcParamKey);
 
 impl fmt::Display for OpaqueKey {
     ghost use Rattle.std.specs.Prelude.{Some};
-    ghost use Rattle.param_text_spec.specs.PrintedValues.{opaque_key_name};
+    ghost use Rattle.svcb_spec.specs.PrintedValues.{opaque_key_name};
 
     ghost output = { λ key. Some (opaque_key_name key.0) };
 

@@ -18,29 +18,29 @@ use Rattle.wire_base.specs.RecordReading.{DataRead}
 use Rattle.wire_records.specs.Reading.{address_read, next_octets, unknown_read}
 use Rattle.wire_records.specs.UnknownView.{UnknownData}
 use Rattle.wire_records.specs.Texts.{unknown_text}
-use Rattle.printed_spec.specs.Laws.{AreOctets}
-use Rattle.printed_spec.specs.Addresses.{ipv4_text, ipv6_text}
+use Rattle.name_spec.specs.AddressLaws.{AreOctets}
+use Rattle.name_spec.specs.Addresses.{ipv4_text, ipv6_text}
 use Rattle.text_spec.specs.declared.errors.ScanError.{ScanError}
 use Rattle.text_spec.specs.declared.lexeme.Symbol.{Symbol}
 use Rattle.text_spec.specs.Scanning.{Scanned}
 use Rattle.text_spec.specs.Tokens.{tokens_in}
 use Rattle.text_spec.proofs.Again.{has_tokens}
-use Rattle.association_spec.specs.Rows as rows
-use Rattle.association_spec.specs.Rows.{Row, Data, sshfp, tlsa, cds, cdnskey, openpgpkey, zonemd}
-use Rattle.association_spec.specs.Wire.{reaching, read_data}
-use Rattle.association_spec.specs.Texts.{data_printed}
-use Rattle.association_spec.specs.Ipseckeys.{IsAddress}
-use Rattle.association_spec.specs.IpseckeyWire.{ipseckey_read}
-use Rattle.association_laws.specs.Laws.{IsTextOf, ReadComposedBack, IpseckeyComposedBack}
-use Rattle.rdata_text_laws.specs.Laws.{IsData, ReadIsData}
-use Rattle.rdata_text_laws.proofs.Lines.{line_again}
-use Rattle.text_len_laws.specs.Laws.{DataLineFits}
-use Rattle.text_len_laws.proofs.Addresses.{ipv4-length, ipv6-length}
-use Rattle.record_len_laws.specs.Laws.{LineFits, TypesLinesFit, IpseckeyLineFits, UnknownTextByOctets}
-use Rattle.union_spec.specs.RecordData.{RecordData, A, Aaaa, Sshfp, Ipseckey, Tlsa, Cds, Cdnskey, Openpgpkey, Zonemd, Svcb, Https, Unknown, rtype_of}
-use Rattle.union_spec.specs.Reading.{read_as}
-use Rattle.union_spec.specs.Texts.{union_scan, union_printed}
-use Rattle.union_laws.specs.Laws.{IsUnionData, UnionTextReadBack}
+use Rattle.record_spec.specs.Rows as rows
+use Rattle.record_spec.specs.Rows.{Row, Data, sshfp, tlsa, cds, cdnskey, openpgpkey, zonemd}
+use Rattle.record_spec.specs.Wire.{reaching, read_data}
+use Rattle.record_spec.specs.Texts.{data_printed}
+use Rattle.record_spec.specs.Ipseckeys.{IsAddress}
+use Rattle.record_spec.specs.IpseckeyWire.{ipseckey_read}
+use Rattle.record_laws.specs.RecordLaws.{IsTextOf, ReadComposedBack, IpseckeyComposedBack}
+use Rattle.svcb_laws.specs.DataTextLaws.{IsData, ReadIsData}
+use Rattle.svcb_laws.proofs.Lines.{line_again}
+use Rattle.svcb_laws.specs.TextLengthLaws.{DataLineFits}
+use Rattle.svcb_laws.proofs.AddressLengths.{ipv4-length, ipv6-length}
+use Rattle.record_laws.specs.TextLengthLaws.{LineFits, TypesLinesFit, IpseckeyLineFits, UnknownTextByOctets}
+use Rattle.record_spec.specs.RecordData.{RecordData, A, Aaaa, Sshfp, Ipseckey, Tlsa, Cds, Cdnskey, Openpgpkey, Zonemd, Svcb, Https, Unknown, rtype_of}
+use Rattle.record_spec.specs.UnionReading.{read_as}
+use Rattle.record_spec.specs.UnionTexts.{union_scan, union_printed}
+use Rattle.record_laws.specs.UnionLaws.{IsUnionData, UnionTextReadBack}
 use Rattle.devices.specs.declared.transfer.TheConstants.{MAX_INPUT}
 use Rattle.svcbedit.specs.Commands.{answer_of, reads, answer_to, due}
 use Rattle.svcbedit.specs.Laws.{hexadecimal, due_to_show, due_to_scan, ShownIsScannedBack, TypesAreScannedBack, AllDataBack}

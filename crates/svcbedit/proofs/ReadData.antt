@@ -4,13 +4,13 @@ use Rattle.std.specs.Prelude.{slice_index, slice_range}
 use Rattle.std.specs.List.{flat_map}
 use Rattle.name_spec.specs.Octets.{be2}
 use Rattle.name_spec.specs.Names.{name_wire, AreLabels}
-use Rattle.printed_spec.specs.Laws.{AreOctets}
+use Rattle.name_spec.specs.AddressLaws.{AreOctets}
 use Rattle.svcb_spec.specs.Params.{Pairs, Ascends, pairs_wire, wire}
 use Rattle.svcb_spec.specs.Records.{Record, rdata}
 use Rattle.svcb_spec.proofs.WireLaws.{wire-pairs}
-use Rattle.param_text_laws.specs.Laws.{HaveOctets}
-use Rattle.rdata_text_laws.specs.Laws.{IsData}
-use Rattle.rdata_text_laws.proofs.DataOctets.{octets_parts, octets_joined}
+use Rattle.svcb_laws.specs.ParamTextLaws.{HaveOctets}
+use Rattle.svcb_laws.specs.DataTextLaws.{IsData}
+use Rattle.svcb_laws.proofs.DataOctets.{octets_parts, octets_joined}
 
 -- what is known of a list's numbers, place by place
 abbrev pub AreSmall : List ℕ → Type 0

@@ -6,8 +6,8 @@ use Rattle.std.specs.Prelude.{nat_lt}
 use Rattle.name_spec.specs.Octets.{Fault, Form}
 use Rattle.wire_base.specs.Input.{Input}
 use Rattle.wire_base.specs.RecordReading.{DataRead, place_behind}
-use Rattle.union_spec.specs.RecordData.{RecordData}
-use Rattle.union_spec.specs.Reading.{union_read}
+use Rattle.record_spec.specs.RecordData.{RecordData}
+use Rattle.record_spec.specs.UnionReading.{union_read}
 use Rattle.rdata_union.specs.Views.{value_read}
 use Rattle.svcbedit.specs.Show.{whole_message, wholly_read, data_in}
 

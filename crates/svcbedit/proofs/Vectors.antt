@@ -4,7 +4,7 @@ use Rattle.std.specs.Prelude.{codes}
 use Rattle.hex.specs.Hex.{decode_pairs}
 use Rattle.svcb_spec.specs.Values.{Alpn, Port, Unknown}
 use Rattle.text_spec.specs.Lexing.{step, lexemes_at}
-use Rattle.param_text_spec.specs.ValueTexts.{protocols_within}
+use Rattle.svcb_spec.specs.ValueTexts.{protocols_within}
 use Rattle.svcbedit.specs.Pushes.{push_of}
 
 -- ---- the text of a parameter

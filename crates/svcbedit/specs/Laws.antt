@@ -2,9 +2,9 @@
 use Rattle.std.specs.Prelude.{◌≡◌, ℕ, List, Option, Some, None, Ok}
 use Rattle.hex.specs.Hex.{encode_lower}
 use Rattle.svcb_spec.specs.Records.{Record}
-use Rattle.rdata_text_laws.specs.Laws.{IsData}
-use Rattle.union_spec.specs.RecordData.{RecordData, Svcb, Https, union_wire}
-use Rattle.union_spec.specs.Texts.{union_printed}
+use Rattle.svcb_laws.specs.DataTextLaws.{IsData}
+use Rattle.record_spec.specs.RecordData.{RecordData, Svcb, Https, union_wire}
+use Rattle.record_spec.specs.UnionTexts.{union_printed}
 use Rattle.svcbedit.specs.Commands.{due}
 use Rattle.svcbedit.specs.Report.{Answer, done, line}
 use Rattle.svcbedit.specs.Show.{spelled_octets, data_in}

@@ -5,8 +5,8 @@ use Rattle.text_spec.specs.declared.errors.ScanError.{ScanError}
 use Rattle.text_spec.specs.declared.errors.ScanError.TheVariants as errors
 use Rattle.text_spec.specs.Scanning.{Scanning}
 use Rattle.text_spec.specs.Tokens.{text_fault, tokens_in}
-use Rattle.union_spec.specs.RecordData.{RecordData, union_wire}
-use Rattle.union_spec.specs.Texts.{union_scan}
+use Rattle.record_spec.specs.RecordData.{RecordData, union_wire}
+use Rattle.record_spec.specs.UnionTexts.{union_scan}
 use Rattle.svcbedit.specs.Report.{Answer, done, not_done}
 
 -- what a report says of a fault; want of memory is none, and nothing is written for it

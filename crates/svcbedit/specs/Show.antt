@@ -3,9 +3,9 @@ use Rattle.std.specs.Prelude.{â„•, Option, Some, None, Result, Ok, Err, List, â—
 use Rattle.name_spec.specs.Octets.{Fault, Form}
 use Rattle.wire_base.specs.Input.{Input}
 use Rattle.wire_base.specs.RecordReading.{DataRead}
-use Rattle.union_spec.specs.RecordData.{RecordData}
-use Rattle.union_spec.specs.Reading.{union_read}
-use Rattle.union_spec.specs.Texts.{union_printed}
+use Rattle.record_spec.specs.RecordData.{RecordData}
+use Rattle.record_spec.specs.UnionReading.{union_read}
+use Rattle.record_spec.specs.UnionTexts.{union_printed}
 use Rattle.svcbedit.specs.Faults.{refused, data_fault_text}
 use Rattle.svcbedit.specs.Lines.{lines}
 use Rattle.svcbedit.specs.Pushes.{hexadecimal_octets}

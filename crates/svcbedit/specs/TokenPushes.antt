@@ -7,7 +7,7 @@ use Rattle.text_spec.specs.declared.errors.ScanError.TheVariants.{NoMemory}
 use Rattle.text_spec.specs.declared.lexeme.Symbol.{Symbol}
 use Rattle.text_spec.specs.Scanning.{octets_of}
 use Rattle.text_spec.specs.Tokens.{text_fault, tokens_in}
-use Rattle.param_text_spec.specs.ParamTexts.{spells}
+use Rattle.svcb_spec.specs.ParamTexts.{spells}
 use Rattle.svcbedit.specs.Places.{◌>>=◌}
 
 -- the tokens of a text that is an entry

@@ -1,7 +1,7 @@
 //! What answers `scan`.
 ghost use Rattle.std.specs.Prelude.{◌≡◌, IfOk};
 ghost use Rattle.text_spec.specs.Scanning.{Answers};
-ghost use Rattle.union_spec.specs.Texts.{union_scan};
+ghost use Rattle.record_spec.specs.UnionTexts.{union_scan};
 ghost use Rattle.rdata_union.specs.Views.{data_of_zone};
 ghost use Rattle.svcbedit.specs.ReportView.{answer_view};
 ghost use Rattle.svcbedit.specs.Scan.{entry_scanned, scan_fault_text, scanned};

@@ -7,7 +7,7 @@ ghost use Rattle.svcbedit.specs.TokenPushes.{lone_token, token_push, ReadsAs};
 use dns_text::{Entry, EntryScanner, ScanError, Scanner};
 use std::alloc::Global;
 use svcb_rdata::AllValues;
-use svcb_scan::scan_param;
+use svcb_text::scan_param;
 use wire_base::{NoMemory, Octets};
 
 /// The octets of the token of a line that is an entry with exactly one.

@@ -12,7 +12,7 @@ use Rattle.base64.proofs.Decoding.{IsLeftover, IsLeftover_next, scan-nil, scan-c
 use Rattle.base64.proofs.EngineFacts.{decode_of-encode_of, decode_of_strict}
 use Rattle.hex.specs.Hex as hex
 use Rattle.hex.proofs.HexLemmas.{decode_of-encode_upper, decode_of-ok}
-use Rattle.printed_spec.specs.Laws.{AreOctets}
+use Rattle.name_spec.specs.AddressLaws.{AreOctets}
 use Rattle.text_spec.specs.Encodings.{base16_of, base16_text, base64_of, base64_text}
 
 -- ---- octets, by place and one by one

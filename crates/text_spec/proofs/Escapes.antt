@@ -4,7 +4,7 @@ use Rattle.std.specs.Prelude.{nat_le, ◌⊎◌}
 use Rattle.std.proofs.lemmas.Bool.{cases_Bool}
 use Rattle.std.proofs.lemmas.Bool.Decides.{nat_tests}
 use Rattle.std.specs.Char.{is_ascii_digit}
-use Rattle.printed_spec.specs.Printed.{Written, Plain, Escaped, Decimal, written}
+use Rattle.name_spec.specs.Printed.{Written, Plain, Escaped, Decimal, written}
 use Rattle.text_spec.specs.Lexing.{three_digits, decimal_of, escape_of}
 use Rattle.text_spec.specs.Pieces.{is_escapable, IsSymbol, NoEscape}
 

@@ -7,7 +7,7 @@ use Rattle.std.proofs.lemmas.Bool.Decides.{nat_tests}
 use Rattle.std.proofs.lemmas.List.{append-nil, take-append-drop}
 use Rattle.std.proofs.lemmas.List.Sums.{take_while-cons}
 use Rattle.std.specs.List.{flat_map, take_while, AllByRecursion}
-use Rattle.printed_spec.specs.Printed.{Written, Plain, Escaped, Decimal, written}
+use Rattle.name_spec.specs.Printed.{Written, Plain, Escaped, Decimal, written}
 use Rattle.text_spec.specs.declared.errors.ScanError.{ScanError}
 use Rattle.text_spec.specs.declared.errors.ScanError.TheVariants.{BadSymbol, BadEscape, OpenQuote, BadBracket, TrailingTokens}
 use Rattle.text_spec.specs.Lexing.{line_len}

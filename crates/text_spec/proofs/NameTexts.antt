@@ -7,8 +7,8 @@ use Rattle.std.specs.List.{flat_map}
 use Rattle.std.proofs.lemmas.Bool.Decides.{nat_tests}
 use Rattle.std.proofs.lemmas.Grind.{flat_map-append}
 use Rattle.name_spec.specs.Names.{AreLabels}
-use Rattle.printed_spec.specs.Printed.{Written, Plain, Escaped, Decimal, written, is_special_in_name, is_visible, printed_as, printed_label, printed_name_with_dot}
-use Rattle.printed_spec.specs.Laws.{AreOctets}
+use Rattle.name_spec.specs.Printed.{Written, Plain, Escaped, Decimal, written, is_special_in_name, is_visible, printed_as, printed_label, printed_name_with_dot}
+use Rattle.name_spec.specs.AddressLaws.{AreOctets}
 use Rattle.text_spec.specs.declared.lexeme.Symbol.{Symbol}
 use Rattle.text_spec.specs.Pieces.{symbol_of, IsTokenText}
 use Rattle.text_spec.specs.NameTexts.{is_bare_octet, is_lone, dotted_parts, without_final_dot, are_labels, if_labels, name_of}

@@ -16,9 +16,9 @@ use Rattle.std.proofs.lemmas.Str.Parse.{digit_from_value}
 use Rattle.base64.specs.Rfc4648.{encode_symbols, padding_len}
 use Rattle.hex.specs.Hex as hex
 use Rattle.hex.proofs.HexLemmas.{length-encode_with}
-use Rattle.printed_spec.specs.Printed.{Plain, written}
-use Rattle.printed_spec.specs.Addresses.{ipv4_text, ipv6_text}
-use Rattle.printed_spec.specs.Laws.{AreOctets}
+use Rattle.name_spec.specs.Printed.{Plain, written}
+use Rattle.name_spec.specs.Addresses.{ipv4_text, ipv6_text}
+use Rattle.name_spec.specs.AddressLaws.{AreOctets}
 use Rattle.text_spec.specs.declared.lexeme.Symbol.{Symbol}
 use Rattle.text_spec.specs.Pieces.{symbol_of, is_bare, IsTokenText}
 use Rattle.text_spec.specs.Scanning.{octets_of}

@@ -4,8 +4,8 @@ use Rattle.std.proofs.Common.{◌≡◌, ℕ, ◌<◌, Bool, true, false, cond, 
 use Rattle.std.proofs.lemmas.Bool.{cases_eq, ne_eqb}
 use Rattle.std.proofs.lemmas.Bool.Decides.{nat_tests}
 use Rattle.std.specs.List.{flat_map, AllByRecursion}
-use Rattle.printed_spec.specs.Printed.{Written, Plain, Escaped, Decimal, written, is_special, is_special_in_name, is_visible, printed_as, printed_octet, printed_octets}
-use Rattle.printed_spec.specs.Laws.{AreOctets}
+use Rattle.name_spec.specs.Printed.{Written, Plain, Escaped, Decimal, written, is_special, is_special_in_name, is_visible, printed_as, printed_octet, printed_octets}
+use Rattle.name_spec.specs.AddressLaws.{AreOctets}
 use Rattle.text_spec.specs.declared.lexeme.Symbol.{Symbol}
 use Rattle.text_spec.specs.Pieces.{Piece, Bare, symbol_of, spelled, is_bare, is_escapable, IsSymbol, AreParts, lexemes_of, grouped, tokens_of, IsTokenText}
 use Rattle.text_spec.specs.Scanning.{octets_of, is_marker}

@@ -5,7 +5,7 @@ use Rattle.std.specs.List.{flat_map}
 use Rattle.std.proofs.lemmas.Bool.Decides.{nat_tests}
 use Rattle.std.proofs.lemmas.Grind.{flat_map-append}
 use Rattle.std.proofs.lemmas.List.{append-nil}
-use Rattle.printed_spec.specs.Printed.{Written}
+use Rattle.name_spec.specs.Printed.{Written}
 use Rattle.text_spec.specs.declared.display_kind.DisplayKind.{DisplayKind}
 use Rattle.text_spec.specs.declared.display_kind.DisplayKind.TheVariants.{Simple, Tabbed, Multiline}
 use Rattle.text_spec.specs.declared.lexeme.Symbol.{Symbol}

@@ -6,7 +6,7 @@ use Rattle.std.proofs.lemmas.List.{drop_at}
 use Rattle.std.proofs.lemmas.List.Sums.{take_while-cons}
 use Rattle.std.specs.Option.{option_map_or}
 use Rattle.std.specs.List.{flat_map, take_while, AllByRecursion}
-use Rattle.printed_spec.specs.Printed.{Written, Plain, Escaped, Decimal, written}
+use Rattle.name_spec.specs.Printed.{Written, Plain, Escaped, Decimal, written}
 use Rattle.text_spec.specs.declared.errors.ScanError.{ScanError}
 use Rattle.text_spec.specs.declared.errors.ScanError.TheVariants.{BadEscape, BadBracket}
 use Rattle.text_spec.specs.declared.lexeme.Lexeme.{Lexeme}

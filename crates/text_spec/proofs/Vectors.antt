@@ -1,7 +1,7 @@
 -- What the definitions of texts give on worked inputs. No proof cites this file.
 use Rattle.std.proofs.Common.{◌≡◌, ℕ, true, false, List, [], ◌∷◌, ◌++◌, map, Option, Some, None, refl}
 use Rattle.std.specs.Prelude.{codes}
-use Rattle.printed_spec.specs.Printed.{printed_as, printed_octets, printed_name, printed_name_with_dot}
+use Rattle.name_spec.specs.Printed.{printed_as, printed_octets, printed_name, printed_name_with_dot}
 use Rattle.text_spec.specs.declared.errors.ScanError.TheVariants.{BadSymbol, BadEscape, OpenQuote, BadBracket, TrailingTokens, EndOfEntry}
 use Rattle.text_spec.specs.declared.display_kind.DisplayKind.TheVariants.{Simple, Tabbed, Multiline}
 use Rattle.text_spec.specs.declared.lexeme.Symbol.{Symbol}

@@ -3,9 +3,9 @@ use Rattle.std.specs.Prelude.{◌≡◌, ℕ, ◌<◌, ◌^◌, ◌↔◌, IsTru
 use Rattle.std.specs.Fmt.{decimal}
 use Rattle.std.specs.List.{flat_map, AllByRecursion}
 use Rattle.name_spec.specs.Names.{AreLabels}
-use Rattle.printed_spec.specs.Printed.{printed_octets, printed_name_with_dot}
-use Rattle.printed_spec.specs.Addresses.{ipv4_text, ipv6_text}
-use Rattle.printed_spec.specs.Laws.{AreOctets}
+use Rattle.name_spec.specs.Printed.{printed_octets, printed_name_with_dot}
+use Rattle.name_spec.specs.Addresses.{ipv4_text, ipv6_text}
+use Rattle.name_spec.specs.AddressLaws.{AreOctets}
 use Rattle.text_spec.specs.declared.errors.ScanError.{ScanError}
 use Rattle.text_spec.specs.declared.lexeme.Symbol.{Symbol}
 use Rattle.text_spec.specs.declared.display_kind.DisplayKind.{DisplayKind}

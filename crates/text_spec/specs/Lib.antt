@@ -1,3 +1,6 @@
+pub mod Documents
+pub mod NumberLaws
+pub mod Rows
 pub mod Encodings
 pub mod Laws
 pub mod LayoutLaws

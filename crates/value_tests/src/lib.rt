@@ -1,4 +1,4 @@
-//! Tests of the values of service parameters.
+//! Tests of the values of service parameters: octets, texts, scans and copies, by their public names.
 #![tactic(auto)]
 
 #[cfg(test)]
@@ -11,6 +11,8 @@ mod long_values;
 mod scans;
 #[cfg(test)]
 mod texts;
+#[cfg(test)]
+mod value_copies;
 #[cfg(test)]
 mod value_scans;
 #[cfg(test)]

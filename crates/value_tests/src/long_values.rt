@@ -1,7 +1,7 @@
 //! The longest values that tokens spell: 65,535 octets, or as many items as fit.
 
 use std::alloc::{AllocError, Global};
-use svcb_scan::scan_param;
+use svcb_text::scan_param;
 use text_spec::ScanError;
 
 /// A key with `=`, and so many items behind it with commas between them. An item is its number where it is to be new, and

@@ -2,7 +2,7 @@
 
 use registry::{ComposeSvcParamValue, SvcParamValue};
 use std::alloc::Global;
-use svcb_scan::{SvcParamValueScanIter, scan_param};
+use svcb_text::{SvcParamValueScanIter, scan_param};
 use svcb_text::AllValues;
 use text_spec::ScanError;
 

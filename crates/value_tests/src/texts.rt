@@ -4,7 +4,7 @@ use registry::SvcParamKey;
 use std::alloc::Global;
 use std::fmt::Display;
 use svcb_list::{AlpnBuilder, Ipv4Hint, Ipv6Hint, Mandatory, TlsSupportedGroups};
-use svcb_scan::scan_param;
+use svcb_text::scan_param;
 use svcb_value::{DohPath, Ech, NoDefaultAlpn, Ohttp, Port};
 use wire_base::{Ipv4Addr, Ipv6Addr, Octets};
 

@@ -4,7 +4,7 @@ use crate::weight::Weight;
 use registry::{ComposeSvcParamValue, SvcParamKey, SvcParamValue};
 use std::alloc::Global;
 use svcb_list::{Alpn, Ipv4Hint, Ipv6Hint, Mandatory, TlsSupportedGroups};
-use svcb_scan::ScanSvcParamValue;
+use svcb_text::ScanSvcParamValue;
 use svcb_text::AllValues;
 use svcb_value::{DohPath, Ech, NoDefaultAlpn, Ohttp, Port, UnknownSvcParam};
 use text_spec::ScanError;

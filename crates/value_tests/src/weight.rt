@@ -8,7 +8,7 @@ ghost use Rattle.text_spec.specs.declared.errors.ScanError.TheVariants.{BadNumbe
 
 use registry::{ComposeSvcParamValue, Integer, ParseSvcParamValue, SvcParamKey, SvcParamValue};
 use std::alloc::Global;
-use svcb_scan::ScanSvcParamValue;
+use svcb_text::ScanSvcParamValue;
 use text_spec::ScanError;
 use wire_base::{NoMemory, ParseError, Parser};
 

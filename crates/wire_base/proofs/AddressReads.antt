@@ -4,8 +4,8 @@ use Rattle.std.specs.declared.net.ipv4_addr.Ipv4Addr.{Ipv4Addr}
 use Rattle.std.specs.declared.net.ipv6_addr.Ipv6Addr.{Ipv6Addr}
 use Rattle.std.specs.Net.Addr.{ipv4_octets, ipv6_octets, ipv6_segments}
 use Rattle.std.specs.Net.Grammar.{IsIpv4Text, IsIpv6Text}
-use Rattle.printed_spec.specs.Addresses.{ipv4_of, ipv6_of}
-use Rattle.printed_spec.proofs.AddressTexts.{ipv4_spelled, ipv4_read, ipv6_spelled, ipv6_read}
+use Rattle.name_spec.specs.Addresses.{ipv4_of, ipv6_of}
+use Rattle.name_spec.proofs.AddressTexts.{ipv4_spelled, ipv4_read, ipv6_spelled, ipv6_read}
 
 -- nothing is read where no octets are
 none_read : (read : Option (List ℕ)) → ((octets : List ℕ) → read ≡ Some octets → ⊥) → None ≡ read

@@ -7,7 +7,7 @@ use Rattle.std.specs.declared.fmt.Formatter.{Formatter}
 use Rattle.std.proofs.lemmas.Bool.Decides.{nat_tests}
 use Rattle.std.proofs.lemmas.Str.{encode_ascii}
 use Rattle.std.proofs.lemmas.Fmt.{decimal_digit}
-use Rattle.printed_spec.specs.Printed.{Plain, Escaped, Decimal, written, is_visible, printed_as, printed_octet, printed_label, printed_labels, printed_name, printed_name_with_dot}
+use Rattle.name_spec.specs.Printed.{Plain, Escaped, Decimal, written, is_visible, printed_as, printed_octet, printed_label, printed_labels, printed_name, printed_name_with_dot}
 use Rattle.wire_base.specs.PrintedIn.{specials}
 
 -- ---- an octet

@@ -1,6 +1,6 @@
 -- Octets as text, in a name or not.
 use Rattle.std.specs.Prelude.{ℕ, Bool, true, false}
-use Rattle.printed_spec.specs.Printed.{is_special, is_special_in_name}
+use Rattle.name_spec.specs.Printed.{is_special, is_special_in_name}
 
 -- which octets stand behind a backslash
 abbrev pub specials : Bool → ℕ → Bool

@@ -1,7 +1,7 @@
 //! Internet addresses.
 
 ghost use Rattle.std.specs.Prelude.{◌≡◌, Some, length};
-ghost use Rattle.printed_spec.specs.Addresses.{ipv4_of, ipv6_of, ipv4_text, ipv6_text};
+ghost use Rattle.name_spec.specs.Addresses.{ipv4_of, ipv6_of, ipv4_text, ipv6_text};
 
 use std::marker::Model;
 use std::{fmt, net};

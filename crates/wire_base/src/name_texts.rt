@@ -1,7 +1,7 @@
 //! Names as text.
 
 ghost use Rattle.std.specs.Prelude.{◌≡◌, Some};
-ghost use Rattle.printed_spec.specs.Printed.{printed_name, printed_name_with_dot};
+ghost use Rattle.name_spec.specs.Printed.{printed_name, printed_name_with_dot};
 
 use crate::owned_name::Name;
 use crate::printed::PrintedLabel;

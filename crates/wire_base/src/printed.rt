@@ -2,7 +2,7 @@
 
 ghost use Rattle.std.specs.Prelude.{◌≡◌, Some, flat_map};
 ghost use Rattle.std.specs.Fmt.{WritesOnOk};
-ghost use Rattle.printed_spec.specs.Printed.{is_visible, printed_octet, printed_octets, printed_label};
+ghost use Rattle.name_spec.specs.Printed.{is_visible, printed_octet, printed_octets, printed_label};
 ghost use Rattle.wire_base.specs.PrintedIn.{specials};
 
 use std::fmt;

@@ -1,7 +1,7 @@
 //! Record data of IPv4 addresses.
 
 ghost use Rattle.std.specs.Prelude.{◌≡◌, ◌==◌, ℕ, List, Some, Err, refl, length, IfOk, OnErr};
-ghost use Rattle.printed_spec.specs.Addresses.{ipv4_text};
+ghost use Rattle.name_spec.specs.Addresses.{ipv4_text};
 ghost use Rattle.wire_base.specs.Moving.{TakesOctets};
 ghost use Rattle.wire_records.specs.Reading.{next_octets, address_read};
 

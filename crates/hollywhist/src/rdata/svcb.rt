@@ -13,5 +13,5 @@ pub use svcb_rdata::{
     Https, HttpsVariant, RebuildError, Rebuilt, Replies, Reply, SvcVariant, Svcb, SvcbRdata,
     SvcbRef, SvcbVariant, rebuild_svcb,
 };
-pub use svcb_scan::{ScanSvcParamValue, SvcParamValueScanIter, scan_param};
+pub use svcb_text::{ScanSvcParamValue, SvcParamValueScanIter, scan_param};
 pub use svcb_value::{UnknownSvcParam, UnknownSvcParamRef};

@@ -2,8 +2,8 @@ use Rattle.std.proofs.Common.{◌≡◌, [], ◌∷◌, take, ap, ◌∙◌, ari
 use Rattle.std.specs.List.{flat_map}
 use Rattle.std.proofs.Output.{has_written_of_eq}
 use Rattle.std.proofs.lemmas.List.{take_all}
-use Rattle.printed_spec.specs.Printed.{printed_octets}
-use Rattle.param_text_spec.specs.ListTexts.{escaped_item}
+use Rattle.name_spec.specs.Printed.{printed_octets}
+use Rattle.svcb_spec.specs.ListTexts.{escaped_item}
 use Rattle.svcb_list.proofs.ListTexts.{by_octets}
 use Rattle.svcb_list.proofs.list_text.write_escaped.Goals as goal
 

@@ -1,8 +1,8 @@
 use Rattle.std.proofs.Common.{[], ◌∷◌, take}
 use Rattle.std.specs.List.{flat_map}
 use Rattle.std.specs.Fmt.{HasWritten, IsPlainFormatter}
-use Rattle.printed_spec.specs.Printed.{printed_octets}
-use Rattle.param_text_spec.specs.ListTexts.{escaped_item}
+use Rattle.name_spec.specs.Printed.{printed_octets}
+use Rattle.svcb_spec.specs.ListTexts.{escaped_item}
 use Rattle.svcb_list.proofs.list_text.write_escaped.Given as goal
 
 abbrev pub invariant-loop-octet : goal.invariant-loop-octet

@@ -2,7 +2,7 @@
 use Rattle.std.proofs.Common.{◌≡◌, None, subst}
 use Rattle.text_spec.specs.Scanning.{Scan, Answers}
 use Rattle.text_spec.specs.Tokens.{text_fault}
-use Rattle.union_spec.specs.Texts.{union_scan}
+use Rattle.record_spec.specs.UnionTexts.{union_scan}
 use Rattle.rdata_union.specs.Views.{data_of_zone}
 use Rattle.svcbedit.proofs.TokenLemmas.{before, entry_answers}
 use Rattle.svcbedit.proofs.scan.scan_data.Goals as goal

@@ -1,7 +1,7 @@
 -- What was read, and the place behind it, say which data all the octets are.
 use Rattle.std.proofs.Common.{rules, ◌≡◌, IfOk, Result, sym, subst, arith}
 use Rattle.name_spec.specs.Octets.{Fault, Short, Form}
-use Rattle.union_spec.specs.RecordData.{RecordData}
+use Rattle.record_spec.specs.RecordData.{RecordData}
 use Rattle.rdata_union.specs.Views.{data_of_all}
 use Rattle.svcbedit.specs.ReportView.{answer_view}
 use Rattle.svcbedit.specs.Show.{data_shown}

@@ -1,7 +1,7 @@
 use Rattle.std.proofs.Common.{take}
 use Rattle.std.specs.List.{flat_map}
 use Rattle.std.specs.Fmt.{HasWritten, IsPlainFormatter}
-use Rattle.printed_spec.specs.Printed.{printed_octet}
+use Rattle.name_spec.specs.Printed.{printed_octet}
 use Rattle.wire_base.specs.PrintedIn.{specials}
 use Rattle.wire_base.proofs.printed.write_octets.Given as goal
 

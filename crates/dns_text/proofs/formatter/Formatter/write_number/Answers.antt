@@ -1,4 +1,4 @@
-use Rattle.dns_text.specs.NumberLaws.{one_line-number_comment}
+use Rattle.text_spec.specs.NumberLaws.{one_line-number_comment}
 use Rattle.dns_text.proofs.formatter.Formatter.write_number.Goals as goal
 
 pub write_commented-requires : goal.write_commented-requires

@@ -4,7 +4,7 @@ use Rattle.text_spec.specs.declared.errors.ScanError.{ScanError}
 use Rattle.text_spec.specs.declared.errors.ScanError.TheVariants.{BadBase64}
 use Rattle.text_spec.specs.Encodings.{base64_of}
 use Rattle.text_spec.specs.Scanning.{Scans, Answers}
-use Rattle.dns_text.specs.Rows.{rest_octets}
+use Rattle.text_spec.specs.Rows.{rest_octets}
 use Rattle.dns_text.proofs.Rests.{rest_scan}
 use Rattle.dns_text.proofs.scanner.Scanner.scan_rest_base64.Goals as goal
 

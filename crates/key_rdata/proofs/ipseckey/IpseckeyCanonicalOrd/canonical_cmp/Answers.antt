@@ -1,5 +1,5 @@
 use Rattle.std.proofs.Common.{nat_cmp, ap₂, ◌∙◌}
-use Rattle.association_spec.specs.Ipseckeys.{Ipseckey}
+use Rattle.record_spec.specs.Ipseckeys.{Ipseckey}
 use Rattle.key_rdata.specs.IpseckeyView.{ipseckey_of}
 use Rattle.key_rdata.proofs.Orders.{data_order-steps}
 use Rattle.key_rdata.proofs.ipseckey.IpseckeyCanonicalOrd.canonical_cmp.Goals as goal

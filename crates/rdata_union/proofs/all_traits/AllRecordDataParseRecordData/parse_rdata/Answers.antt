@@ -1,6 +1,6 @@
 use Rattle.std.proofs.Common.{◌≡◌, true, Err, refl, sym, subst, rules}
 use Rattle.wire_base.specs.RecordReading.{DataAnswers}
-use Rattle.union_spec.specs.Reading.{union_read}
+use Rattle.record_spec.specs.UnionReading.{union_read}
 use Rattle.rdata_union.specs.Views.{data_of_all}
 use Rattle.rdata_union.proofs.ReadingAnswers.{some_answers, fault_answers}
 use Rattle.rdata_union.proofs.all_traits.AllRecordDataParseRecordData.parse_rdata.Goals as goal

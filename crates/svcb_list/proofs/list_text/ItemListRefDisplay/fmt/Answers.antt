@@ -1,6 +1,6 @@
 use Rattle.std.proofs.Common.{◌≡◌, [], ◌∷◌, ◌++◌, map, true, rules, refl, sym, ap, ◌∙◌}
 use Rattle.std.proofs.Output.{has_written_append, has_written_of_eq}
-use Rattle.param_text_spec.specs.PrintedValues.{value_printed, key_name, with_items}
+use Rattle.svcb_spec.specs.PrintedValues.{value_printed, key_name, with_items}
 use Rattle.svcb_list.proofs.ListTexts.{commas_and, first_then_others, one_more}
 use Rattle.svcb_list.proofs.list_text.ItemListRefDisplay.fmt.Goals as goal
 

@@ -1,6 +1,6 @@
 use Rattle.std.proofs.Common.{map}
 use Rattle.std.specs.Fmt.{IsPlainFormatter}
-use Rattle.param_text_spec.specs.PrintedValues.{value_printed}
+use Rattle.svcb_spec.specs.PrintedValues.{value_printed}
 use Rattle.svcb_list.proofs.ListTexts.{WritesFront, commas_and}
 use Rattle.svcb_list.proofs.list_text.ItemListRefDisplay.fmt.Given as goal
 

@@ -1,10 +1,10 @@
 use Rattle.std.proofs.Common.{◌≡◌, ◌∙◌, ◌+◌, [], ◌∷◌, ◌++◌, ap, subst, arith}
 use Rattle.std.specs.Prelude.{IsErr}
 use Rattle.text_spec.specs.Layouts.{BlockEnd}
-use Rattle.rdata_text_spec.specs.DataDocuments.{params_document}
+use Rattle.svcb_spec.specs.DataDocuments.{params_document}
 use Rattle.dns_text.specs.Writing.{Shows}
 use Rattle.dns_text.proofs.Nesting.{shows, shows_behind, shows_stopped, same_blocks}
-use Rattle.rdata_text_spec.specs.DocumentLaws.{document-params}
+use Rattle.svcb_spec.specs.DataDocumentLaws.{document-params}
 use Rattle.svcb_rdata.proofs.DocumentParts.{parts, parts_laid_out}
 use Rattle.svcb_rdata.proofs.texts.SvcbRdataZonefileFmt.fmt_zone.Goals as goal
 

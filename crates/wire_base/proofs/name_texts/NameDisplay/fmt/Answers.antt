@@ -1,6 +1,6 @@
 use Rattle.std.proofs.Common.{◌≡◌, List, ℕ, ◌∷◌, ◌++◌, refl, sym, ap, ◌∙◌, append_assoc}
 use Rattle.std.proofs.Output.{has_written_append}
-use Rattle.printed_spec.specs.Printed.{printed_label}
+use Rattle.name_spec.specs.Printed.{printed_label}
 use Rattle.wire_base.proofs.PrintedTexts.{dots_and_labels, first_then_others}
 use Rattle.wire_base.proofs.name_texts.NameDisplay.fmt.Goals as goal
 

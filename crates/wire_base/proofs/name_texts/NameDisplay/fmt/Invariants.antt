@@ -1,5 +1,5 @@
 use Rattle.std.specs.Fmt.{IsPlainFormatter}
-use Rattle.printed_spec.specs.Printed.{printed_name}
+use Rattle.name_spec.specs.Printed.{printed_name}
 use Rattle.wire_base.proofs.PrintedTexts.{WritesFront, dots_and_labels}
 use Rattle.wire_base.proofs.name_texts.NameDisplay.fmt.Given as goal
 

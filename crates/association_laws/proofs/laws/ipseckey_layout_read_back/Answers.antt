@@ -1,5 +1,0 @@
-use Rattle.association_laws.proofs.IpseckeyTexts.{ipseckey_layout_again}
-use Rattle.association_laws.proofs.laws.ipseckey_layout_read_back.Goals as goal
-
-pub returns : goal.returns
-returns c = ipseckey_layout_again

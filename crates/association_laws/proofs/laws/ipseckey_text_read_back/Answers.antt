@@ -1,5 +1,0 @@
-use Rattle.association_laws.proofs.IpseckeyTexts.{ipseckey_text_again}
-use Rattle.association_laws.proofs.laws.ipseckey_text_read_back.Goals as goal
-
-pub returns : goal.returns
-returns c = ipseckey_text_again

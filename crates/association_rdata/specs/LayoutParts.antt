@@ -1,8 +1,0 @@
--- The items of a record's data, without their block.
-use Rattle.std.specs.Prelude.{List, [], ◌∷◌, ◌++◌}
-use Rattle.text_spec.specs.Layouts.{Item, Token}
-use Rattle.association_spec.specs.Rows.{Row, Data}
-use Rattle.association_spec.specs.Documents.{numbers_items, encoded}
-
-abbrev pub data_items : Row → Data → List Item
-data_items row found = numbers_items row.fields found.numbers ++ Token (encoded row.encoding found.last) ∷ []

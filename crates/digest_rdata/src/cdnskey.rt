@@ -1,0 +1,171 @@
+//! Record data of CDNSKEY.
+
+ghost use Rattle.std.specs.Prelude.{◌≡◌, ◌+◌, ◌≤◌, ◌<◌, ◌==◌, [], ◌∷◌, Some, refl, length, IfOk, OnOk, OnErr};
+ghost use Rattle.std.specs.Ordering.{nat_cmp};
+ghost use Rattle.record_spec.specs.Rows.{cdnskey};
+ghost use Rattle.record_spec.specs.Texts.{numbers_printed};
+ghost use Rattle.record_spec.specs.DocumentLaws.{document-cdnskey};
+ghost use Rattle.digest_rdata.specs.ComparingLaws.{equal_three, then_three};
+
+use crate::association_fields::AssociationFields;
+use crate::fields_data::FieldsData;
+use crate::form::Form;
+use crate::octets::{split_u8, split_u16};
+use record_spec::Encoding;
+use dns_text::{Formatter, Scanner};
+use key_registry::SecurityAlgorithm;
+use std::alloc::Global;
+use std::fmt;
+use text_spec::ScanError;
+use wire_base::{LongRecordData, NoMemory, Octets, Rtype};
+
+/// The data of a CDNSKEY record (RFC 7344, section 3.2): a key for the parent zone.
+pub type Cdnskey = FieldsData<CdnskeyFields>;
+
+/// The fixed fields of [`Cdnskey`].
+#[derive(Clone, Copy, Debug, PartialEq, Eq, PartialOrd, Ord, Hash)]
+pub struct CdnskeyFields {
+    /// The flags (RFC 4034, section 2.1.1).
+    pub flags: u16,
+    /// The protocol, which is 3 (RFC 4034, section 2.1.2); other numbers are kept.
+    pub protocol: u8,
+    /// The algorithm of the key.
+    pub algorithm: SecurityAlgorithm,
+}
+
+impl Cdnskey {
+    /// The data of its fields. No memory is taken.
+    ///
+    /// `LongRecordData`: it would have more than 65,535 octets. The public key is then dropped.
+    pub fn new(
+        flags: u16,
+        protocol: u8,
+        algorithm: SecurityAlgorithm,
+        public_key: Octets,
+    ) -> Result<Cdnskey, LongRecordData>
+        ensures made { IfOk result (λ made. made ≡ record {
+          fields = record { flags = flags; protocol = protocol; algorithm = algorithm };
+          last = public_key;
+        }) }
+        ensures ok { OnOk result (4 + length public_key ≤ 65535) }
+        ensures long { OnErr result (65535 < 4 + length public_key) }
+    {
+        FieldsData::from_parts(
+            CdnskeyFields {
+                flags,
+                protocol,
+                algorithm,
+            },
+            public_key,
+        )
+    }
+
+    /// The flags (RFC 4034, section 2.1.1).
+    pub fn flags(&self) -> u16
+        ensures { result ≡ self.now.fields.flags }
+    {
+        self.fields().flags
+    }
+
+    /// The protocol, which is 3 (RFC 4034, section 2.1.2); other numbers are kept.
+    pub fn protocol(&self) -> u8
+        ensures { result ≡ self.now.fields.protocol }
+    {
+        self.fields().protocol
+    }
+
+    /// The algorithm of the key.
+    pub fn algorithm(&self) -> SecurityAlgorithm
+        ensures { result ≡ self.now.fields.algorithm }
+    {
+        self.fields().algorithm
+    }
+
+    /// The public key.
+    pub fn public_key(&self) -> &Octets
+        ensures { result.now ≡ self.now.last }
+    {
+        self.last()
+    }
+}
+
+impl AssociationFields for CdnskeyFields {
+    ghost definition = { cdnskey };
+
+    ghost numbers = { λ fields. fields.flags ∷ fields.protocol ∷ fields.algorithm ∷ [] };
+
+    const NAME: &'static str = "Cdnskey";
+
+    fn form() -> Form {
+        Form {
+            rtype: Rtype::CDNSKEY,
+            fixed_len: 4,
+            least: 0,
+            encoding: Encoding::Base64,
+            in_brackets: false,
+        }
+    }
+
+    fn read(octets: &[u8]) -> CdnskeyFields {
+        let (flags, octets) = split_u16(octets);
+        let (protocol, octets) = split_u8(octets);
+        let (algorithm, _) = split_u8(octets);
+        CdnskeyFields {
+            flags,
+            protocol,
+            algorithm: SecurityAlgorithm::from(algorithm),
+        }
+    }
+
+    fn append(&self, target: &mut Vec<u8>) {
+        let flags = self.flags;
+        let protocol = self.protocol;
+        let algorithm = u8::from(self.algorithm);
+        target.extend_from_slice(&flags.to_be_bytes()).unwrap();
+        target.extend_from_slice(&protocol.to_be_bytes()).unwrap();
+        target.extend_from_slice(&algorithm.to_be_bytes()).unwrap();
+    }
+
+    fn scan<S: Scanner>(alloc: Global, scanner: &mut S) -> Result<CdnskeyFields, ScanError> {
+        Ok(CdnskeyFields {
+            flags: scanner.scan_u16(alloc)?,
+            protocol: scanner.scan_u8(alloc)?,
+            algorithm: scanner.scan_number(alloc)?,
+        })
+    }
+
+    fn lay_out(&self, f: &mut Formatter) -> Result<(), NoMemory> {
+        f.write_decimal(u32::from(self.flags))?;
+        f.write_decimal(u32::from(self.protocol))?;
+        f.write_number(self.algorithm)
+    }
+
+    fn numbers_fit(self) {
+        let _number = u8::from(self.algorithm);
+    }
+
+    ghost prints = { λ fields. refl };
+
+    ghost wire_len = { λ fields. refl };
+
+    ghost is_document = { document-cdnskey };
+
+    ghost equal = { λ a b. equal_three
+        (a.flags == b.flags) (a.protocol == b.protocol) (a.algorithm == b.algorithm) };
+
+    ghost ordered = { λ a b. then_three
+        (nat_cmp a.flags b.flags) (nat_cmp a.protocol b.protocol)
+        (nat_cmp a.algorithm b.algorithm) };
+
+    ghost feeds = { λ fields more. refl };
+}
+
+/// The numbers, each with a space behind it.
+impl fmt::Display for CdnskeyFields {
+    ghost output = { λ fields. Some (numbers_printed
+        (fields.flags ∷ fields.protocol ∷ fields.algorithm ∷ [])) };
+
+    fn fmt<W: fmt::Write>(&self, f: &mut fmt::Formatter<W>) -> fmt::Result {
+        write!(f, "{} {} {} ", self.flags, self.protocol, self.algorithm)
+    }
+}

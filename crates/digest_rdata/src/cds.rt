@@ -1,0 +1,185 @@
+//! Record data of CDS.
+
+ghost use Rattle.std.specs.Prelude.{◌≡◌, ◌+◌, ◌≤◌, ◌<◌, ◌==◌, [], ◌∷◌, Some, refl, length, IfOk, OnOk, OnErr};
+ghost use Rattle.std.specs.Ordering.{nat_cmp};
+ghost use Rattle.record_spec.specs.Rows.{cds};
+ghost use Rattle.record_spec.specs.Texts.{numbers_printed};
+ghost use Rattle.record_spec.specs.DocumentLaws.{document-cds};
+ghost use Rattle.digest_rdata.specs.ComparingLaws.{equal_three, then_three};
+
+use crate::association_fields::AssociationFields;
+use crate::fields_data::FieldsData;
+use crate::form::Form;
+use crate::octets::{split_u8, split_u16};
+use record_spec::Encoding;
+use dns_text::{Formatter, Scanner};
+use key_registry::{DigestAlgorithm, SecurityAlgorithm};
+use std::alloc::Global;
+use std::fmt;
+use text_spec::ScanError;
+use wire_base::{LongRecordData, NoMemory, Octets, Rtype};
+
+/// The data of a CDS record (RFC 7344, section 3.1): a digest of a key for the parent zone.
+pub type Cds = FieldsData<CdsFields>;
+
+/// The fixed fields of [`Cds`].
+#[derive(Clone, Copy, Debug, PartialEq, Eq, PartialOrd, Ord, Hash)]
+pub struct CdsFields {
+    /// The key tag of the key (RFC 4034, section 5.1.1).
+    pub key_tag: u16,
+    /// The algorithm of the key.
+    pub algorithm: SecurityAlgorithm,
+    /// The algorithm of the digest.
+    pub digest_type: DigestAlgorithm,
+}
+
+impl Cds {
+    /// The data of its fields. No memory is taken.
+    ///
+    /// `LongRecordData`: it would have more than 65,535 octets. The digest is then dropped.
+    pub fn new(
+        key_tag: u16,
+        algorithm: SecurityAlgorithm,
+        digest_type: DigestAlgorithm,
+        digest: Octets,
+    ) -> Result<Cds, LongRecordData>
+        ensures made { IfOk result (λ made. made ≡ record {
+          fields = record { key_tag = key_tag; algorithm = algorithm; digest_type = digest_type };
+          last = digest;
+        }) }
+        ensures ok { OnOk result (4 + length digest ≤ 65535) }
+        ensures long { OnErr result (65535 < 4 + length digest) }
+    {
+        FieldsData::from_parts(
+            CdsFields {
+                key_tag,
+                algorithm,
+                digest_type,
+            },
+            digest,
+        )
+    }
+
+    /// The key tag of the key (RFC 4034, section 5.1.1).
+    pub fn key_tag(&self) -> u16
+        ensures { result ≡ self.now.fields.key_tag }
+    {
+        self.fields().key_tag
+    }
+
+    /// The algorithm of the key.
+    pub fn algorithm(&self) -> SecurityAlgorithm
+        ensures { result ≡ self.now.fields.algorithm }
+    {
+        self.fields().algorithm
+    }
+
+    /// The algorithm of the digest.
+    pub fn digest_type(&self) -> DigestAlgorithm
+        ensures { result ≡ self.now.fields.digest_type }
+    {
+        self.fields().digest_type
+    }
+
+    /// The digest.
+    pub fn digest(&self) -> &Octets
+        ensures { result.now ≡ self.now.last }
+    {
+        self.last()
+    }
+
+    /// The digest, which is not copied.
+    pub fn into_digest(self) -> Octets
+        ensures { result ≡ self.last }
+    {
+        self.into_last()
+    }
+}
+
+impl AssociationFields for CdsFields {
+    ghost definition = { cds };
+
+    ghost numbers = { λ fields. fields.key_tag ∷ fields.algorithm ∷ fields.digest_type ∷ [] };
+
+    const NAME: &'static str = "Cds";
+
+    fn form() -> Form {
+        Form {
+            rtype: Rtype::CDS,
+            fixed_len: 4,
+            least: 0,
+            encoding: Encoding::Base16,
+            in_brackets: false,
+        }
+    }
+
+    fn read(octets: &[u8]) -> CdsFields {
+        let (key_tag, octets) = split_u16(octets);
+        let (algorithm, octets) = split_u8(octets);
+        let (digest_type, _) = split_u8(octets);
+        CdsFields {
+            key_tag,
+            algorithm: SecurityAlgorithm::from(algorithm),
+            digest_type: DigestAlgorithm::from(digest_type),
+        }
+    }
+
+    fn append(&self, target: &mut Vec<u8>) {
+        let key_tag = self.key_tag;
+        let algorithm = u8::from(self.algorithm);
+        let digest_type = u8::from(self.digest_type);
+        target.extend_from_slice(&key_tag.to_be_bytes()).unwrap();
+        target.extend_from_slice(&algorithm.to_be_bytes()).unwrap();
+        target
+            .extend_from_slice(&digest_type.to_be_bytes())
+            .unwrap();
+    }
+
+    fn scan<S: Scanner>(alloc: Global, scanner: &mut S) -> Result<CdsFields, ScanError> {
+        Ok(CdsFields {
+            key_tag: scanner.scan_u16(alloc)?,
+            algorithm: scanner.scan_number(alloc)?,
+            digest_type: scanner.scan_number(alloc)?,
+        })
+    }
+
+    fn lay_out(&self, f: &mut Formatter) -> Result<(), NoMemory> {
+        f.write_decimal(u32::from(self.key_tag))?;
+        f.write_comment("key tag")?;
+        f.write_number(self.algorithm)?;
+        f.write_number(self.digest_type)
+    }
+
+    fn numbers_fit(self) {
+        let _numbers = (u8::from(self.algorithm), u8::from(self.digest_type));
+    }
+
+    ghost prints = { λ fields. refl };
+
+    ghost wire_len = { λ fields. refl };
+
+    ghost is_document = { document-cds };
+
+    ghost equal = { λ a b. equal_three
+        (a.key_tag == b.key_tag) (a.algorithm == b.algorithm) (a.digest_type == b.digest_type) };
+
+    ghost ordered = { λ a b. then_three
+        (nat_cmp a.key_tag b.key_tag) (nat_cmp a.algorithm b.algorithm)
+        (nat_cmp a.digest_type b.digest_type) };
+
+    ghost feeds = { λ fields more. refl };
+}
+
+/// The numbers, each with a space behind it.
+impl fmt::Display for CdsFields {
+    ghost output = { λ fields. Some (numbers_printed
+        (fields.key_tag ∷ fields.algorithm ∷ fields.digest_type ∷ [])) };
+
+    fn fmt<W: fmt::Write>(&self, f: &mut fmt::Formatter<W>) -> fmt::Result {
+        write!(
+            f,
+            "{} {} {} ",
+            self.key_tag, self.algorithm, self.digest_type
+        )
+    }
+}

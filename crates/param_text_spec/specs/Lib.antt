@@ -1,5 +1,0 @@
-pub mod ListTexts
-pub mod ValueTexts
-pub mod ParamTexts
-pub mod PrintedValues
-pub mod PrintedParams

@@ -1,6 +1,0 @@
-mod Tests
-mod HeldKeys
-mod OwnTexts
-mod Distinct
-mod PairTexts
-mod Documents

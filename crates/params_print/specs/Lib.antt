@@ -1,2 +1,0 @@
-pub mod NumberSets
-pub mod SeenPair

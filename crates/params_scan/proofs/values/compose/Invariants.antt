@@ -1,7 +1,0 @@
-use Rattle.std.proofs.Common.{◌≡◌, ◌++◌}
-use Rattle.svcb_spec.specs.Params.{pairs_wire}
-use Rattle.params_scan.specs.Holding.{pairs_of}
-use Rattle.params_scan.proofs.values.compose.Given as goal
-
-abbrev pub invariant-loop-key : goal.invariant-loop-key
-invariant-loop-key l = l.octets.items ++ pairs_wire (pairs_of l.key-iterator) ≡ pairs_wire (pairs_of l.values.entries)

@@ -1,3 +1,0 @@
-pub mod Printed
-pub mod Addresses
-pub mod Laws

@@ -1,6 +1,0 @@
-//! How octets, names and addresses are written as text: definitions, and the laws that hold of them.
-//!
-//! The definitions stand in `specs/`. They speak of whole numbers and lists of octets; a text is its octets.
-#![tactic(auto)]
-
-pub mod laws;

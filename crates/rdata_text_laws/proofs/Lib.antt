@@ -1,5 +1,0 @@
-pub mod Lines
-pub mod DataTokens
-pub mod DataOctets
-pub mod DataTexts
-pub mod ReadOctets

@@ -1,3 +1,0 @@
-pub mod DataTexts
-pub mod DataDocuments
-pub mod DocumentLaws

@@ -1,0 +1,30 @@
+-- Laws of the data of records of any type, which the functions of `src/laws.rt` state.
+use Rattle.std.specs.Prelude.{◌≡◌, ◌≤◌, false, length}
+use Rattle.name_spec.specs.AddressLaws.{AreOctets}
+use Rattle.record_spec.specs.Rows.{IsData, sshfp, tlsa, cds, cdnskey, openpgpkey, zonemd}
+use Rattle.record_spec.specs.Ipseckeys.{IsAddress, IsIpseckey, lacks_key}
+use Rattle.record_laws.specs.RecordLaws.{IsTextOf}
+use Rattle.svcb_laws.specs.DataTextLaws as service
+use Rattle.record_spec.specs.RecordData.{RecordData, A, Aaaa, Sshfp, Ipseckey, Tlsa, Cds, Cdnskey, Openpgpkey, Zonemd, Svcb, Https, Unknown, rtype_of}
+use Rattle.record_spec.specs.UnionTexts.{union_scan, union_printed}
+
+-- data of a type: its parts are octets, its numbers and lengths fit, and no IPSECKEY key is missing
+abbrev pub IsUnionData : RecordData → Type 0
+IsUnionData (A address) = IsAddress 4 address
+IsUnionData (Aaaa address) = IsAddress 16 address
+IsUnionData (Sshfp found) = IsData sshfp found
+IsUnionData (Ipseckey found) = IsIpseckey found × (lacks_key found.algorithm found.key ≡ false)
+IsUnionData (Tlsa found) = IsData tlsa found
+IsUnionData (Cds found) = IsData cds found
+IsUnionData (Cdnskey found) = IsData cdnskey found
+IsUnionData (Openpgpkey found) = IsData openpgpkey found
+IsUnionData (Zonemd found) = IsData zonemd found
+IsUnionData (Svcb found) = service.IsData found
+IsUnionData (Https found) = service.IsData found
+IsUnionData (Unknown found) = AreOctets found.octets × (length found.octets ≤ 65535)
+
+-- The printed text of data has tokens, and those are scanned under the number of its type as that data. So it is also of
+-- octets under the number of a type that has fields.
+abbrev pub UnionTextReadBack : Type 0
+UnionTextReadBack = (found : RecordData) → IsUnionData found
+    → IsTextOf (union_scan (rtype_of found)) (union_printed found) found

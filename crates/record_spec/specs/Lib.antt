@@ -1,0 +1,15 @@
+pub mod Rows
+pub mod Wire
+pub mod Texts
+pub mod Documents
+pub mod Comparing
+pub mod Ipseckeys
+pub mod IpseckeyWire
+pub mod IpseckeyTexts
+pub mod IpseckeyComparing
+pub mod DocumentLaws
+pub mod IpseckeyOrders
+pub mod RecordData
+pub mod UnionReading
+pub mod UnionTexts
+pub mod UnionDocumentLaws

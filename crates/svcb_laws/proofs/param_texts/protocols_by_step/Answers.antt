@@ -1,0 +1,5 @@
+use Rattle.svcb_laws.proofs.ProtocolLists.{protocols_of-step}
+use Rattle.svcb_laws.proofs.param_texts.protocols_by_step.Goals as goal
+
+pub returns : goal.returns
+returns c = protocols_of-step

@@ -1,0 +1,3 @@
+pub mod ParamTextLaws
+pub mod DataTextLaws
+pub mod TextLengthLaws

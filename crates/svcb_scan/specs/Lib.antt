@@ -1,4 +1,0 @@
-pub mod Items
-pub mod ScanningValues
-pub mod ValueFaults
-pub mod Lists

@@ -1,4 +1,0 @@
-pub mod Pieces
-pub mod Addresses
-pub mod Values
-pub mod DataLengths

@@ -1,3 +1,0 @@
-mod PlainTexts
-mod Fields
-mod UnionTexts

@@ -1,5 +1,0 @@
-use Rattle.union_laws.proofs.UnionTexts.{union_text_again}
-use Rattle.union_laws.proofs.laws.union_text_read_back.Goals as goal
-
-pub returns : goal.returns
-returns c = union_text_again c.data_text_read_back.ensures c.types_are_rows.ensures c.ipseckey_text_read_back.ensures

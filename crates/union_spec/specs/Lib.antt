@@ -1,4 +1,0 @@
-pub mod RecordData
-pub mod Reading
-pub mod Texts
-pub mod DocumentLaws
