@@ -6,7 +6,7 @@ use Rattle.std.specs.Cmp.Lexicographic.{slice_cmp}
 use Rattle.name_spec.specs.CanonicalOrder.{canonical_order}
 use Rattle.record_spec.specs.Rows.{Field, Row, Data, AreNumbers}
 use Rattle.record_spec.specs.Wire.{numbers_wire, data_wire}
-use Rattle.record_spec.specs.Comparing.{data_cmp}
+use Rattle.record_spec.specs.Comparing.{fields_cmp}
 use Rattle.record_spec.proofs.OctetLists.{length-octets, equal, then_assoc, slice_cmp-append, number_order}
 
 -- the order of fields and of what stands behind them
@@ -26,7 +26,7 @@ numbers_order (field ∷ fields) (x ∷ xs) (y ∷ ys) last last' fit fit' =
     ∙ sym (then_assoc (nat_cmp x y) (slice_cmp nat_cmp xs ys) (slice_cmp nat_cmp last last'))
 
 -- the canonical order of data of one type
-pub data_order : (row : Row) (x y : Data) → AreNumbers row.fields x.numbers → AreNumbers row.fields y.numbers → canonical_order row.rtype (data_wire row x) row.rtype (data_wire row y) ≡ data_cmp x y
+pub data_order : (row : Row) (x y : Data) → AreNumbers row.fields x.numbers → AreNumbers row.fields y.numbers → canonical_order row.rtype (data_wire row x) row.rtype (data_wire row y) ≡ fields_cmp x y
 data_order row x y fit fit' =
     ap (λ o. ordering_then o (slice_cmp nat_cmp (data_wire row x) (data_wire row y))) (equal row.rtype row.rtype refl)
     ∙ numbers_order row.fields x.numbers y.numbers x.last y.last fit fit'

@@ -10,7 +10,7 @@ use Rattle.registry.specs.Texts.{spelled_number}
 use Rattle.text_spec.specs.Rows.{number_below}
 use Rattle.record_spec.specs.Rows.{Field, Row}
 use Rattle.record_spec.specs.Texts.{numbers_then, scan_last, scan_data}
-use Rattle.record_spec.specs.Documents.{commented, numbers_items}
+use Rattle.record_spec.specs.Documents.{number_with_comment, numbers_items}
 use Rattle.digest_rdata.specs.ScanningParts.{scan_numbers}
 
 -- scanning goes on in the same way behind each answer
@@ -60,7 +60,7 @@ behind (field ∷ fields) f tokens place =
 pub scan_numbers_behind : (row : Row) (tokens : List (List Symbol)) (place : ℕ) → place ≤ (scan_numbers row tokens place).place
 scan_numbers_behind row tokens place = behind row.fields (λ numbers. numbers) tokens place
 
-one_more : (n : ℕ) (comment : Option (List ℕ)) (blocks : ℕ) → depth_after (commented n comment) blocks ≡ Some blocks
+one_more : (n : ℕ) (comment : Option (List ℕ)) (blocks : ℕ) → depth_after (number_with_comment n comment) blocks ≡ Some blocks
 one_more n None blocks = refl
 one_more n (Some comment) blocks = refl
 
@@ -69,7 +69,7 @@ pub depth_after-numbers : (fields : List Field) (numbers : List ℕ) (blocks : �
 depth_after-numbers [] numbers blocks = refl
 depth_after-numbers (field ∷ fields) [] blocks = refl
 depth_after-numbers (field ∷ fields) (n ∷ numbers) blocks =
-    depth_after-append (commented n (field.comment n)) (numbers_items fields numbers) blocks blocks (one_more n (field.comment n) blocks)
+    depth_after-append (number_with_comment n (field.comment n)) (numbers_items fields numbers) blocks blocks (one_more n (field.comment n) blocks)
     ∙ depth_after-numbers fields numbers blocks
 
 -- and a token behind them none either

@@ -11,11 +11,11 @@ ghost use Rattle.record_spec.specs.Rows.{Row, Data, AreNumbers, fixed_len};
 ghost use Rattle.record_spec.specs.Wire.{numbers_in, numbers_wire};
 ghost use Rattle.record_spec.specs.Texts.{numbers_printed};
 ghost use Rattle.record_spec.specs.Documents.{numbers_items, data_document};
-ghost use Rattle.record_spec.specs.Comparing.{numbers_fed};
+ghost use Rattle.record_spec.specs.Comparing.{numbers_hash_input};
 ghost use Rattle.digest_rdata.specs.Forms.{IsFormOf};
 ghost use Rattle.digest_rdata.specs.ScanningParts.{scan_numbers};
 
-use crate::form::Form;
+use crate::record_form::RecordForm;
 use dns_text::{Formatter, Scanner};
 use std::alloc::Global;
 use std::fmt;
@@ -23,7 +23,7 @@ use std::hash::Hash;
 use text_spec::ScanError;
 use wire_base::NoMemory;
 
-/// The fixed fields of a type of record, over which [`FieldsData`](crate::FieldsData) is the type of its data.
+/// The fixed fields of a type of record, over which [`AssociationData`](crate::AssociationData) is the type of its data.
 ///
 /// A type of fields says by `definition` which record it belongs to, and by `numbers` which numbers its fields are. It
 /// owes that these are read, composed, scanned, printed, laid out and compared as the definition says.
@@ -38,7 +38,7 @@ pub trait AssociationFields: Copy + Ord + Hash + fmt::Debug + fmt::Display {
     const NAME: &'static str;
 
     /// The form of the record's data.
-    fn form() -> Form
+    fn form() -> RecordForm
         ensures { IsFormOf definition result };
 
     /// The fields that octets begin with.
@@ -91,5 +91,5 @@ pub trait AssociationFields: Copy + Ord + Hash + fmt::Debug + fmt::Display {
 
     /// Fields are fed to a hasher as their numbers.
     ghost feeds: { (fields : Self) (more : HashWrites)
-        → Self.hash_input fields ++ more ≡ numbers_fed definition.fields (numbers fields) more };
+        → Self.hash_input fields ++ more ≡ numbers_hash_input definition.fields (numbers fields) more };
 }

@@ -8,8 +8,8 @@ ghost use Rattle.record_spec.specs.DocumentLaws.{document-cdnskey};
 ghost use Rattle.digest_rdata.specs.ComparingLaws.{equal_three, then_three};
 
 use crate::association_fields::AssociationFields;
-use crate::fields_data::FieldsData;
-use crate::form::Form;
+use crate::association_data::AssociationData;
+use crate::record_form::RecordForm;
 use crate::octets::{split_u8, split_u16};
 use record_spec::Encoding;
 use dns_text::{Formatter, Scanner};
@@ -20,7 +20,7 @@ use text_spec::ScanError;
 use wire_base::{LongRecordData, NoMemory, Octets, Rtype};
 
 /// The data of a CDNSKEY record (RFC 7344, section 3.2): a key for the parent zone.
-pub type Cdnskey = FieldsData<CdnskeyFields>;
+pub type Cdnskey = AssociationData<CdnskeyFields>;
 
 /// The fixed fields of [`Cdnskey`].
 #[derive(Clone, Copy, Debug, PartialEq, Eq, PartialOrd, Ord, Hash)]
@@ -50,7 +50,7 @@ impl Cdnskey {
         ensures ok { OnOk result (4 + length public_key ≤ 65535) }
         ensures long { OnErr result (65535 < 4 + length public_key) }
     {
-        FieldsData::from_parts(
+        AssociationData::from_parts(
             CdnskeyFields {
                 flags,
                 protocol,
@@ -96,8 +96,8 @@ impl AssociationFields for CdnskeyFields {
 
     const NAME: &'static str = "Cdnskey";
 
-    fn form() -> Form {
-        Form {
+    fn form() -> RecordForm {
+        RecordForm {
             rtype: Rtype::CDNSKEY,
             fixed_len: 4,
             least: 0,

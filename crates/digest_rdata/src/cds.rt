@@ -8,8 +8,8 @@ ghost use Rattle.record_spec.specs.DocumentLaws.{document-cds};
 ghost use Rattle.digest_rdata.specs.ComparingLaws.{equal_three, then_three};
 
 use crate::association_fields::AssociationFields;
-use crate::fields_data::FieldsData;
-use crate::form::Form;
+use crate::association_data::AssociationData;
+use crate::record_form::RecordForm;
 use crate::octets::{split_u8, split_u16};
 use record_spec::Encoding;
 use dns_text::{Formatter, Scanner};
@@ -20,7 +20,7 @@ use text_spec::ScanError;
 use wire_base::{LongRecordData, NoMemory, Octets, Rtype};
 
 /// The data of a CDS record (RFC 7344, section 3.1): a digest of a key for the parent zone.
-pub type Cds = FieldsData<CdsFields>;
+pub type Cds = AssociationData<CdsFields>;
 
 /// The fixed fields of [`Cds`].
 #[derive(Clone, Copy, Debug, PartialEq, Eq, PartialOrd, Ord, Hash)]
@@ -50,7 +50,7 @@ impl Cds {
         ensures ok { OnOk result (4 + length digest ≤ 65535) }
         ensures long { OnErr result (65535 < 4 + length digest) }
     {
-        FieldsData::from_parts(
+        AssociationData::from_parts(
             CdsFields {
                 key_tag,
                 algorithm,
@@ -103,8 +103,8 @@ impl AssociationFields for CdsFields {
 
     const NAME: &'static str = "Cds";
 
-    fn form() -> Form {
-        Form {
+    fn form() -> RecordForm {
+        RecordForm {
             rtype: Rtype::CDS,
             fixed_len: 4,
             least: 0,

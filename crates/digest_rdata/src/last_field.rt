@@ -12,7 +12,7 @@ use wire_records::Base16;
 
 /// The last field of a record's data as `Display` prints it: a key, a digest or a certificate.
 #[derive(Clone, Copy, Debug)]
-pub struct LastText<'a> {
+pub struct EncodedOctets<'a> {
     /// The octets of the field.
     pub octets: &'a [u8],
     /// How they are written.
@@ -22,7 +22,7 @@ pub struct LastText<'a> {
 }
 
 /// The octets bare, with base16 in lower case, or in brackets, with base16 in upper case.
-impl fmt::Display for LastText<'_> {
+impl fmt::Display for EncodedOctets<'_> {
     ghost output = { λ text. Some (last_printed text.encoding text.in_brackets text.octets.now) };
 
     fn fmt<W: fmt::Write>(&self, f: &mut fmt::Formatter<W>) -> fmt::Result {

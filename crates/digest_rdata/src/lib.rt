@@ -1,15 +1,15 @@
 //! Record data that ties a name to keys, digests and certificates: CDS and CDNSKEY (RFC 7344), SSHFP (RFC 4255), TLSA
 //! (RFC 6698), ZONEMD (RFC 8976) and OPENPGPKEY (RFC 7929).
 //!
-//! Each type is [`FieldsData`] over its fixed fields, so all calls but constructors and readers stand once.
+//! Each type is [`AssociationData`] over its fixed fields, so all calls but constructors and readers stand once.
 #![tactic(auto)]
 
 mod association_fields;
 mod cdnskey;
 mod cds;
 mod comparisons;
-mod fields_data;
-mod form;
+mod association_data;
+mod record_form;
 mod last_field;
 mod octets;
 mod openpgpkey;
@@ -20,9 +20,9 @@ mod zonemd;
 pub use association_fields::AssociationFields;
 pub use cdnskey::{Cdnskey, CdnskeyFields};
 pub use cds::{Cds, CdsFields};
-pub use fields_data::FieldsData;
-pub use form::Form;
-pub use last_field::LastText;
+pub use association_data::AssociationData;
+pub use record_form::RecordForm;
+pub use last_field::EncodedOctets;
 pub use openpgpkey::{Openpgpkey, OpenpgpkeyFields};
 pub use sshfp::{Sshfp, SshfpFields};
 pub use tlsa::{Tlsa, TlsaFields};

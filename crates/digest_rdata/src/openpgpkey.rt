@@ -6,8 +6,8 @@ ghost use Rattle.record_spec.specs.Texts.{numbers_printed};
 ghost use Rattle.record_spec.specs.DocumentLaws.{document-openpgpkey};
 
 use crate::association_fields::AssociationFields;
-use crate::fields_data::FieldsData;
-use crate::form::Form;
+use crate::association_data::AssociationData;
+use crate::record_form::RecordForm;
 use record_spec::Encoding;
 use dns_text::{Formatter, Scanner};
 use std::alloc::Global;
@@ -16,7 +16,7 @@ use text_spec::ScanError;
 use wire_base::{LongRecordData, NoMemory, Octets, Rtype};
 
 /// The data of an OPENPGPKEY record (RFC 7929, section 2.1): an OpenPGP key.
-pub type Openpgpkey = FieldsData<OpenpgpkeyFields>;
+pub type Openpgpkey = AssociationData<OpenpgpkeyFields>;
 
 /// The fixed fields of [`Openpgpkey`], which has none.
 #[derive(Clone, Copy, Debug, PartialEq, Eq, PartialOrd, Ord, Hash)]
@@ -31,7 +31,7 @@ impl Openpgpkey {
           last = key;
         } }
     {
-        FieldsData::from_checked_parts(OpenpgpkeyFields, key)
+        AssociationData::from_checked_parts(OpenpgpkeyFields, key)
     }
 
     /// The data of its fields. No memory is taken.
@@ -45,7 +45,7 @@ impl Openpgpkey {
         ensures ok { OnOk result (length key ≤ 65535) }
         ensures long { OnErr result (65535 < length key) }
     {
-        FieldsData::from_parts(OpenpgpkeyFields, key)
+        AssociationData::from_parts(OpenpgpkeyFields, key)
     }
 
     /// The key.
@@ -63,8 +63,8 @@ impl AssociationFields for OpenpgpkeyFields {
 
     const NAME: &'static str = "Openpgpkey";
 
-    fn form() -> Form {
-        Form {
+    fn form() -> RecordForm {
+        RecordForm {
             rtype: Rtype::OPENPGPKEY,
             fixed_len: 0,
             least: 0,

@@ -8,8 +8,8 @@ ghost use Rattle.record_spec.specs.DocumentLaws.{document-sshfp};
 ghost use Rattle.digest_rdata.specs.ComparingLaws.{equal_two, then_two};
 
 use crate::association_fields::AssociationFields;
-use crate::fields_data::FieldsData;
-use crate::form::Form;
+use crate::association_data::AssociationData;
+use crate::record_form::RecordForm;
 use crate::octets::split_u8;
 use record_spec::Encoding;
 use dns_text::{Formatter, Scanner};
@@ -20,7 +20,7 @@ use text_spec::ScanError;
 use wire_base::{LongRecordData, NoMemory, Octets, Rtype};
 
 /// The data of an SSHFP record (RFC 4255, section 3.1): the fingerprint of a key of a host.
-pub type Sshfp = FieldsData<SshfpFields>;
+pub type Sshfp = AssociationData<SshfpFields>;
 
 /// The fixed fields of [`Sshfp`].
 #[derive(Clone, Copy, Debug, PartialEq, Eq, PartialOrd, Ord, Hash)]
@@ -40,7 +40,7 @@ impl Sshfp {
           last = fingerprint;
         } }
     {
-        FieldsData::from_checked_parts(
+        AssociationData::from_checked_parts(
             SshfpFields {
                 algorithm,
                 fingerprint_type,
@@ -64,7 +64,7 @@ impl Sshfp {
         ensures ok { OnOk result (2 + length fingerprint ≤ 65535) }
         ensures long { OnErr result (65535 < 2 + length fingerprint) }
     {
-        FieldsData::from_parts(
+        AssociationData::from_parts(
             SshfpFields {
                 algorithm,
                 fingerprint_type,
@@ -102,8 +102,8 @@ impl AssociationFields for SshfpFields {
 
     const NAME: &'static str = "Sshfp";
 
-    fn form() -> Form {
-        Form {
+    fn form() -> RecordForm {
+        RecordForm {
             rtype: Rtype::SSHFP,
             fixed_len: 2,
             least: 0,

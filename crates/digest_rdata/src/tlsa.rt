@@ -8,8 +8,8 @@ ghost use Rattle.record_spec.specs.DocumentLaws.{document-tlsa};
 ghost use Rattle.digest_rdata.specs.ComparingLaws.{equal_three, then_three};
 
 use crate::association_fields::AssociationFields;
-use crate::fields_data::FieldsData;
-use crate::form::Form;
+use crate::association_data::AssociationData;
+use crate::record_form::RecordForm;
 use crate::octets::split_u8;
 use record_spec::Encoding;
 use dns_text::{Formatter, Scanner};
@@ -20,7 +20,7 @@ use text_spec::ScanError;
 use wire_base::{LongRecordData, NoMemory, Octets, Rtype};
 
 /// The data of a TLSA record (RFC 6698, section 2.1): a certificate of a TLS service, or its digest.
-pub type Tlsa = FieldsData<TlsaFields>;
+pub type Tlsa = AssociationData<TlsaFields>;
 
 /// The fixed fields of [`Tlsa`].
 #[derive(Clone, Copy, Debug, PartialEq, Eq, PartialOrd, Ord, Hash)]
@@ -47,7 +47,7 @@ impl Tlsa {
           last = association;
         } }
     {
-        FieldsData::from_checked_parts(
+        AssociationData::from_checked_parts(
             TlsaFields {
                 usage,
                 selector,
@@ -73,7 +73,7 @@ impl Tlsa {
         ensures ok { OnOk result (3 + length association ≤ 65535) }
         ensures long { OnErr result (65535 < 3 + length association) }
     {
-        FieldsData::from_parts(
+        AssociationData::from_parts(
             TlsaFields {
                 usage,
                 selector,
@@ -119,8 +119,8 @@ impl AssociationFields for TlsaFields {
 
     const NAME: &'static str = "Tlsa";
 
-    fn form() -> Form {
-        Form {
+    fn form() -> RecordForm {
+        RecordForm {
             rtype: Rtype::TLSA,
             fixed_len: 3,
             least: 0,

@@ -8,8 +8,8 @@ ghost use Rattle.record_spec.specs.DocumentLaws.{document-zonemd};
 ghost use Rattle.digest_rdata.specs.ComparingLaws.{equal_three, then_three};
 
 use crate::association_fields::AssociationFields;
-use crate::fields_data::FieldsData;
-use crate::form::Form;
+use crate::association_data::AssociationData;
+use crate::record_form::RecordForm;
 use crate::octets::{split_u8, split_u32};
 use record_spec::Encoding;
 use dns_text::{Formatter, Scanner};
@@ -21,7 +21,7 @@ use wire_base::{LongRecordData, NoMemory, Octets, Rtype};
 use wire_records::Serial;
 
 /// The data of a ZONEMD record (RFC 8976, section 2): a digest of a zone.
-pub type Zonemd = FieldsData<ZonemdFields>;
+pub type Zonemd = AssociationData<ZonemdFields>;
 
 /// The fixed fields of [`Zonemd`].
 #[derive(Clone, Copy, Debug, PartialEq, Eq, PartialOrd, Ord, Hash)]
@@ -48,7 +48,7 @@ impl Zonemd {
           last = digest;
         } }
     {
-        FieldsData::from_checked_parts(
+        AssociationData::from_checked_parts(
             ZonemdFields {
                 serial,
                 scheme,
@@ -74,7 +74,7 @@ impl Zonemd {
         ensures ok { OnOk result (6 + length digest ≤ 65535) }
         ensures long { OnErr result (65535 < 6 + length digest) }
     {
-        FieldsData::from_parts(
+        AssociationData::from_parts(
             ZonemdFields {
                 serial,
                 scheme,
@@ -120,8 +120,8 @@ impl AssociationFields for ZonemdFields {
 
     const NAME: &'static str = "Zonemd";
 
-    fn form() -> Form {
-        Form {
+    fn form() -> RecordForm {
+        RecordForm {
             rtype: Rtype::ZONEMD,
             fixed_len: 6,
             least: 12,

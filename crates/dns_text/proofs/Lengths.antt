@@ -7,7 +7,7 @@ use Rattle.text_spec.specs.declared.lexeme.Lexeme.{Lexeme}
 use Rattle.text_spec.specs.declared.lexeme.Place.{Place}
 use Rattle.text_spec.specs.Lexing.{step, end_at, with_front, lexemes_at}
 use Rattle.text_spec.specs.Tokens.{start, found_in, tokens_in}
-use Rattle.text_spec.specs.Pieces.{grouped}
+use Rattle.text_spec.specs.Pieces.{token_groups}
 use Rattle.text_spec.specs.declared.lexeme.Symbol.{Symbol}
 use Rattle.text_spec.specs.declared.lexeme.Lexeme.TheVariants.{Octet, Quote, Gap}
 use Rattle.text_spec.proofs.Skips.{after, lexemes_at-front}
@@ -38,13 +38,13 @@ length-lexemes place zero (c ∷ rest) =
     omega (arith, by_front, most)
 
 mutual
-  length-grouped : (lexemes : List Lexeme) → length (grouped None lexemes) ≤ length lexemes
+  length-grouped : (lexemes : List Lexeme) → length (token_groups None lexemes) ≤ length lexemes
   length-grouped [] = omega arith
   length-grouped (Gap ∷ lexemes) = omega (arith, length-grouped lexemes)
   length-grouped (Quote ∷ lexemes) = omega (arith, length-grouped_open [] lexemes)
   length-grouped (Octet symbol ∷ lexemes) = omega (arith, length-grouped_open (symbol ∷ []) lexemes)
 
-  length-grouped_open : (token : List Symbol) (lexemes : List Lexeme) → length (grouped (Some token) lexemes) ≤ length lexemes + 1
+  length-grouped_open : (token : List Symbol) (lexemes : List Lexeme) → length (token_groups (Some token) lexemes) ≤ length lexemes + 1
   length-grouped_open token [] = omega arith
   length-grouped_open token (Gap ∷ lexemes) = omega (arith, length-grouped lexemes)
   length-grouped_open token (Quote ∷ lexemes) = omega (arith, length-grouped_open token lexemes)

@@ -20,7 +20,7 @@ use Rattle.text_spec.specs.declared.lexeme.Symbol.{Symbol}
 use Rattle.text_spec.specs.NameTexts.{is_bare_octet, is_lone, onto_first, dotted_parts, without_final_dot, are_labels, if_labels}
 use Rattle.text_spec.specs.Scanning.{Answers, octets_of}
 use Rattle.text_spec.specs.Rows.{by_name}
-use Rattle.dns_text.specs.Labels.{label_len, labels_of, lengths_and_labels, wire_of}
+use Rattle.dns_text.specs.Labels.{label_len, spelled_labels, lengths_and_labels, wire_of}
 
 -- ---- the first label
 
@@ -56,22 +56,22 @@ without_final_dot-more part symbol symbols =
     ]
 
 -- behind a label stand the labels of the symbols behind its dot
-without_final_dot-from : (part : List ℕ) (behind : List Symbol) → without_final_dot (part ∷ parts_from behind) ≡ part ∷ labels_of (drop 1 behind)
+without_final_dot-from : (part : List ℕ) (behind : List Symbol) → without_final_dot (part ∷ parts_from behind) ≡ part ∷ spelled_labels (drop 1 behind)
 without_final_dot-from part [] = refl
 without_final_dot-from part (dot ∷ []) = refl
 without_final_dot-from part (dot ∷ symbol ∷ symbols) = without_final_dot-more part symbol symbols
 
-labels_of-nonempty : (symbols : List Symbol) → 0 < length symbols → labels_of symbols ≡ without_final_dot (dotted_parts symbols)
+labels_of-nonempty : (symbols : List Symbol) → 0 < length symbols → spelled_labels symbols ≡ without_final_dot (dotted_parts symbols)
 labels_of-nonempty [] some = absurd (omega arith)
 labels_of-nonempty (symbol ∷ symbols) some = refl
 
 -- the labels of symbols are the first, and those of the symbols behind its dot
 pub labels_of-first : (symbols : List Symbol) → 0 < length symbols
-    → labels_of symbols ≡ octets_of (take (label_len symbols) symbols) ∷ labels_of (drop (label_len symbols + 1) symbols)
+    → spelled_labels symbols ≡ octets_of (take (label_len symbols) symbols) ∷ spelled_labels (drop (label_len symbols + 1) symbols)
 labels_of-first symbols some =
     labels_of-nonempty symbols some ∙ ap without_final_dot (dotted_parts-first symbols)
     ∙ without_final_dot-from _ (drop (label_len symbols) symbols)
-    ∙ ap (λ (left : List Symbol). octets_of (take (label_len symbols) symbols) ∷ labels_of left) (drop-drop 1 (label_len symbols) symbols)
+    ∙ ap (λ (left : List Symbol). octets_of (take (label_len symbols) symbols) ∷ spelled_labels left) (drop-drop 1 (label_len symbols) symbols)
 
 -- a label lies within the symbols
 pub label_len-within : (symbols : List Symbol) → label_len symbols ≤ length symbols
@@ -139,7 +139,7 @@ pub record IsWritten (token left : List Symbol) (octets : List ℕ) : Type 0 whe
   pub are : are_labels 0 labels ≡ true
   pub written : octets ≡ lengths_and_labels labels
   pub within : length octets ≤ 254
-  pub all : labels_of token ≡ labels ++ labels_of left
+  pub all : spelled_labels token ≡ labels ++ spelled_labels left
 
 pub written-none : (token : List Symbol) → IsWritten token token []
 written-none token = record { labels = []; are = refl; written = refl; within = omega arith; all = refl }
@@ -148,12 +148,12 @@ length-label : (symbols : List Symbol) → length (octets_of (take (label_len sy
 length-label symbols = length-map (take (label_len symbols) symbols) (λ symbol. symbol.octet) ∙ length-take-le (label_len symbols) symbols (label_len-within symbols)
 
 module _ (token left : List Symbol) (octets : List ℕ) (so_far : IsWritten token left octets) (some : 0 < length left) where
-  label_tested : are_labels 0 (labels_of token)
-      ≡ are_labels (length octets) (octets_of (take (label_len left) left) ∷ labels_of (drop (label_len left + 1) left))
+  label_tested : are_labels 0 (spelled_labels token)
+      ≡ are_labels (length octets) (octets_of (take (label_len left) left) ∷ spelled_labels (drop (label_len left + 1) left))
   label_tested =
       ap (are_labels 0) (so_far.all ∙ ap (λ (more : List (List ℕ)). so_far.labels ++ more) (labels_of-first left some))
       ∙ are_labels-append 0 so_far.labels _ so_far.are
-      ∙ ap (λ (k : ℕ). are_labels k (octets_of (take (label_len left) left) ∷ labels_of (drop (label_len left + 1) left)))
+      ∙ ap (λ (k : ℕ). are_labels k (octets_of (take (label_len left) left) ∷ spelled_labels (drop (label_len left + 1) left)))
       (let same : 0 + length (lengths_and_labels so_far.labels) ≡ length octets = omega (arith, ap (λ (o : List ℕ). length o) so_far.written) in same)
 
   pub written-refused : (label_len left ≡ 0) ⊎ ((63 < label_len left) ⊎ (254 < length octets + label_len left + 1)) → wire_of token ≡ Err BadName
@@ -161,8 +161,8 @@ module _ (token left : List Symbol) (octets : List ℕ) (so_far : IsWritten toke
       let long = length-label left in
       let is_bad : (length (octets_of (take (label_len left) left)) ≡ 0) ⊎ ((63 < length (octets_of (take (label_len left) left))) ⊎ (254 < length octets + length (octets_of (take (label_len left) left)) + 1)) =
       elim bad [ inl none ↦ inl (omega arith) | inr (inl many) ↦ inr (inl (omega arith)) | inr (inr over) ↦ inr (inr (omega arith)) ] in
-      let refused : are_labels 0 (labels_of token) ≡ false = label_tested ∙ are_labels-refused (length octets) (octets_of (take (label_len left) left)) (labels_of (drop (label_len left + 1) left)) is_bad in
-      ap (λ (b : Bool). ok_or (option_map name_wire (cond b (Some (labels_of token)) None)) BadName) refused
+      let refused : are_labels 0 (spelled_labels token) ≡ false = label_tested ∙ are_labels-refused (length octets) (octets_of (take (label_len left) left)) (spelled_labels (drop (label_len left + 1) left)) is_bad in
+      ap (λ (b : Bool). ok_or (option_map name_wire (cond b (Some (spelled_labels token)) None)) BadName) refused
 
   pub written-label : 0 < label_len left → label_len left < 64 → length octets + label_len left + 1 ≤ 254
       → IsWritten token (drop (label_len left + 1) left) (octets ++ label_len left ∷ octets_of (take (label_len left) left))
@@ -176,16 +176,16 @@ module _ (token left : List Symbol) (octets : List ℕ) (so_far : IsWritten toke
         are = are_labels-append 0 so_far.labels (label ∷ []) so_far.are ∙ one;
         written = ap (λ (n : ℕ). octets ++ n ∷ label) (sym long) ∙ ap (λ (o : List ℕ). o ++ length label ∷ label) so_far.written ∙ sym (lengths_and_labels-append so_far.labels label);
         within = omega (arith, length-append octets (label_len left ∷ label));
-        all = so_far.all ∙ ap (λ (more : List (List ℕ)). so_far.labels ++ more) (labels_of-first left some) ∙ sym (append_assoc so_far.labels (label ∷ []) (labels_of (drop (label_len left + 1) left)));
+        all = so_far.all ∙ ap (λ (more : List (List ℕ)). so_far.labels ++ more) (labels_of-first left some) ∙ sym (append_assoc so_far.labels (label ∷ []) (spelled_labels (drop (label_len left + 1) left)));
       }
 
-none_left : (symbols : List Symbol) → length symbols ≡ 0 → labels_of symbols ≡ []
+none_left : (symbols : List Symbol) → length symbols ≡ 0 → spelled_labels symbols ≡ []
 none_left [] none = refl
 none_left (symbol ∷ symbols) none = absurd (omega arith)
 
 pub written-end : (token left : List Symbol) (octets : List ℕ) → IsWritten token left octets → length left ≡ 0 → wire_of token ≡ Ok (octets ++ 0 ∷ [])
 written-end token left octets so_far none =
-    let all : labels_of token ≡ so_far.labels = so_far.all ∙ ap (λ (more : List (List ℕ)). so_far.labels ++ more) (none_left left none) ∙ append-nil so_far.labels in
+    let all : spelled_labels token ≡ so_far.labels = so_far.all ∙ ap (λ (more : List (List ℕ)). so_far.labels ++ more) (none_left left none) ∙ append-nil so_far.labels in
     ap (λ (labels : List (List ℕ)). ok_or (option_map name_wire (if_labels labels)) BadName) all
     ∙ ap (λ (b : Bool). ok_or (option_map name_wire (cond b (Some so_far.labels) None)) BadName) so_far.are
     ∙ ap (λ (o : List ℕ). Ok o) (sym (name_wire-labels so_far.labels) ∙ ap (λ (o : List ℕ). o ++ 0 ∷ []) (sym so_far.written))
@@ -199,7 +199,7 @@ pub record IsPlain (token : List Symbol) : Type 0 where
   pub no_origin : is_lone 64 token ≡ false
 
 -- its name is that of its labels
-by_name-plain : (token : List Symbol) → IsPlain token → by_name token ≡ ok_or (if_labels (labels_of token)) BadName
+by_name-plain : (token : List Symbol) → IsPlain token → by_name token ≡ ok_or (if_labels (spelled_labels token)) BadName
 by_name-plain token plain =
     let labels = without_final_dot (dotted_parts token) in
     ap (λ (b : Bool). ok_or (cond b (Some []) (cond (is_lone 64 token) None (if_labels labels))) BadName) plain.no_root
@@ -222,7 +222,7 @@ named_by token octets labels true are by written =
     record { labels = labels; by_name = by; name_in = ap name_in (sym same) ∙ name_in-name_wire labels (AreLabels-true 0 labels are) }
 
 pub named : (token : List Symbol) (octets : List ℕ) → IsPlain token → wire_of token ≡ Ok octets → IsNamed token octets
-named token octets plain written = named_by token octets (labels_of token) (are_labels 0 (labels_of token)) refl (by_name-plain token plain) written
+named token octets plain written = named_by token octets (spelled_labels token) (are_labels 0 (spelled_labels token)) refl (by_name-plain token plain) written
 
 -- that name is the one that is found in them
 pub named_as : (token : List Symbol) (octets : List ℕ) (labels : List (List ℕ)) → IsNamed token octets → name_in octets ≡ Ok labels → by_name token ≡ Ok labels
@@ -248,12 +248,12 @@ pub unnamed : (token : List Symbol) (fault : ScanError) → IsPlain token
     → Answers {T = List ℕ} (λ octets. octets) (Err fault) (wire_of token) → Answers {T = List (List ℕ)} (λ name. name) (Err fault) (by_name token)
 unnamed token fault plain refused =
     subst (λ (r : Result (List (List ℕ)) ScanError). Answers {T = List (List ℕ)} (λ name. name) (Err fault) r) (sym (by_name-plain token plain))
-    (unnamed_by (if_labels (labels_of token)) fault refused)
+    (unnamed_by (if_labels (spelled_labels token)) fault refused)
 
 -- ---- a name's text is short
 
 -- each symbol has an octet of its own: its label's, or its label's length
-symbols-within : (bound : ℕ) (symbols : List Symbol) → length symbols ≤ bound → length symbols ≤ length (lengths_and_labels (labels_of symbols))
+symbols-within : (bound : ℕ) (symbols : List Symbol) → length symbols ≤ bound → length symbols ≤ length (lengths_and_labels (spelled_labels symbols))
 symbols-within bound [] few = omega arith
 symbols-within zero (symbol ∷ symbols) few = absurd (omega arith)
 symbols-within (suc bound) (symbol ∷ symbols) few =
@@ -262,23 +262,23 @@ symbols-within (suc bound) (symbol ∷ symbols) few =
     let label = octets_of (take len all) in
     let behind = drop (len + 1) all in
     let fewer : length behind ≤ length all - (len + 1) = omega (arith, length-drop (len + 1) all) in
-    let rest : length behind ≤ length (lengths_and_labels (labels_of behind)) = symbols-within bound behind (omega arith) in
-    let first : length (lengths_and_labels (labels_of all)) ≡ length (length label ∷ label ++ lengths_and_labels (labels_of behind)) =
+    let rest : length behind ≤ length (lengths_and_labels (spelled_labels behind)) = symbols-within bound behind (omega arith) in
+    let first : length (lengths_and_labels (spelled_labels all)) ≡ length (length label ∷ label ++ lengths_and_labels (spelled_labels behind)) =
     ap (λ (labels : List (List ℕ)). length (lengths_and_labels labels)) (labels_of-first all (omega arith)) in
-    omega (arith, first, rest, length-append label (lengths_and_labels (labels_of behind)), length-label all, length-drop (len + 1) all)
+    omega (arith, first, rest, length-append label (lengths_and_labels (spelled_labels behind)), length-label all, length-drop (len + 1) all)
 
 labels-within : (labels : List (List ℕ)) → are_labels 0 labels ≡ true → length (lengths_and_labels labels) ≤ 254
 labels-within labels are =
     let whole = ap (λ (octets : List ℕ). length octets) (name_wire-labels labels) in
     omega (arith, whole, length-append (lengths_and_labels labels) (0 ∷ []), length-name_wire 0 labels (omega arith) (AreLabels-true 0 labels are))
 
-long_labels : (token : List Symbol) → 254 < length token → are_labels 0 (labels_of token) ≡ false
-long_labels token long = elim (cases_Bool (are_labels 0 (labels_of token))) [
-  | inl are ↦ absurd (omega (arith, labels-within (labels_of token) are, symbols-within (length token) token (omega arith)))
+long_labels : (token : List Symbol) → 254 < length token → are_labels 0 (spelled_labels token) ≡ false
+long_labels token long = elim (cases_Bool (are_labels 0 (spelled_labels token))) [
+  | inl are ↦ absurd (omega (arith, labels-within (spelled_labels token) are, symbols-within (length token) token (omega arith)))
   | inr are ↦ are
 ]
 
 -- a token of more than 254 symbols is no name text
 pub by_name-long : (token : List Symbol) → IsPlain token → 254 < length token → by_name token ≡ Err BadName
 by_name-long token plain long =
-    by_name-plain token plain ∙ ap (λ (b : Bool). ok_or (cond b (Some (labels_of token)) None) BadName) (long_labels token long)
+    by_name-plain token plain ∙ ap (λ (b : Bool). ok_or (cond b (Some (spelled_labels token)) None) BadName) (long_labels token long)

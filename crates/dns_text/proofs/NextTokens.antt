@@ -7,7 +7,7 @@ use Rattle.text_spec.specs.declared.errors.ScanError.TheVariants.{EndOfEntry}
 use Rattle.text_spec.specs.declared.lexeme.Symbol.{Symbol}
 use Rattle.text_spec.specs.declared.lexeme.Lexeme.{Lexeme}
 use Rattle.text_spec.specs.declared.lexeme.Lexeme.TheVariants.{Octet, Quote, Gap}
-use Rattle.text_spec.specs.Pieces.{grouped}
+use Rattle.text_spec.specs.Pieces.{token_groups}
 use Rattle.text_spec.specs.Scanning.{next_token, is_marker, is_marked}
 use Rattle.dns_text.specs.Reading.{BeginsToken, GoesOn}
 
@@ -27,7 +27,7 @@ is_next (y ∷ ys) (suc n) x rest left =
     record { here = next.here; behind = next.behind ∙ ap (λ k. drop k (y ∷ ys)) counted; more = omega (arith, next.more) }
 
 -- a place where a token begins is the beginning of one
-pub grouped-begins : (lexemes : List Lexeme) → BeginsToken lexemes → grouped None lexemes ≡ grouped (Some []) lexemes
+pub grouped-begins : (lexemes : List Lexeme) → BeginsToken lexemes → token_groups None lexemes ≡ token_groups (Some []) lexemes
 grouped-begins [] begins = absurd begins
 grouped-begins (Gap ∷ lexemes) begins = absurd begins
 grouped-begins (Quote ∷ lexemes) begins = refl
@@ -48,7 +48,7 @@ no_token meaning tokens place short = ap (λ found. elim found [ None ↦ Err En
 
 -- ---- tokens that are begun
 
-begun_left : (token : List Symbol) (lexemes : List Lexeme) → 0 < length (grouped (Some token) lexemes)
+begun_left : (token : List Symbol) (lexemes : List Lexeme) → 0 < length (token_groups (Some token) lexemes)
 begun_left token [] = omega arith
 begun_left token (Gap ∷ lexemes) = omega arith
 begun_left token (Quote ∷ lexemes) = begun_left token lexemes
@@ -56,7 +56,7 @@ begun_left token (Octet symbol ∷ lexemes) = begun_left (token ++ symbol ∷ []
 
 -- where a token begins, one is left
 pub more_left : (lexemes : List Lexeme) (tokens : List (List Symbol)) (place : ℕ)
-    → grouped (Some []) lexemes ≡ drop place tokens → place < length tokens
+    → token_groups (Some []) lexemes ≡ drop place tokens → place < length tokens
 more_left lexemes tokens place left = omega (arith, begun_left [] lexemes, ap length left, length-drop place tokens)
 
 -- a token that is begun goes on with more symbols, and others follow it
@@ -65,9 +65,9 @@ record GoesOnTo (token : List Symbol) (tokens : List (List Symbol)) : Type 0 whe
   others : List (List Symbol)
   is : tokens ≡ (token ++ more) ∷ others
 
-goes_on : (token : List Symbol) (lexemes : List Lexeme) → GoesOnTo token (grouped (Some token) lexemes)
+goes_on : (token : List Symbol) (lexemes : List Lexeme) → GoesOnTo token (token_groups (Some token) lexemes)
 goes_on token [] = record { more = []; others = []; is = ap (λ t. t ∷ []) (sym (append-nil token)) }
-goes_on token (Gap ∷ lexemes) = record { more = []; others = grouped None lexemes; is = ap (λ t. t ∷ grouped None lexemes) (sym (append-nil token)) }
+goes_on token (Gap ∷ lexemes) = record { more = []; others = token_groups None lexemes; is = ap (λ t. t ∷ token_groups None lexemes) (sym (append-nil token)) }
 goes_on token (Quote ∷ lexemes) = goes_on token lexemes
 goes_on token (Octet symbol ∷ lexemes) =
     let on = goes_on (token ++ symbol ∷ []) lexemes in
@@ -88,14 +88,14 @@ not_first symbol (next ∷ more) other = refl
 
 -- another symbol stands first
 pub unmarked_first : (tokens : List (List Symbol)) (place : ℕ) (symbol : Symbol) (lexemes : List Lexeme)
-    → grouped (Some (symbol ∷ [])) lexemes ≡ drop place tokens → (symbol.escaped && (symbol.octet == 35)) ≡ false → is_marked tokens place ≡ false
+    → token_groups (Some (symbol ∷ [])) lexemes ≡ drop place tokens → (symbol.escaped && (symbol.octet == 35)) ≡ false → is_marked tokens place ≡ false
 unmarked_first tokens place symbol lexemes left other =
     let on = goes_on (symbol ∷ []) lexemes in
     marked_as tokens place (symbol ∷ on.more) on.others (sym left ∙ on.is) ∙ not_first symbol on.more other
 
 -- a second symbol follows
 pub unmarked_second : (tokens : List (List Symbol)) (place : ℕ) (symbol : Symbol) (second : Option Symbol) (old new : List Lexeme)
-    → grouped (Some (symbol ∷ [])) old ≡ drop place tokens → GoesOn second old new → is_some second ≡ true → is_marked tokens place ≡ false
+    → token_groups (Some (symbol ∷ [])) old ≡ drop place tokens → GoesOn second old new → is_some second ≡ true → is_marked tokens place ≡ false
 unmarked_second tokens place symbol None old new left goes there = absurd cc
 unmarked_second tokens place symbol (Some next) old new left goes there =
     let on = goes_on (symbol ∷ next ∷ []) new in
@@ -103,6 +103,6 @@ unmarked_second tokens place symbol (Some next) old new left goes there =
 
 -- no second symbol follows
 pub ends_alone : (tokens : List (List Symbol)) (place : ℕ) (symbol : Symbol) (second : Option Symbol) (old new : List Lexeme)
-    → grouped (Some (symbol ∷ [])) old ≡ drop place tokens → GoesOn second old new → is_some second ≡ false → drop place tokens ≡ (symbol ∷ []) ∷ grouped None new
+    → token_groups (Some (symbol ∷ [])) old ≡ drop place tokens → GoesOn second old new → is_some second ≡ false → drop place tokens ≡ (symbol ∷ []) ∷ token_groups None new
 ends_alone tokens place symbol None old new left goes none = sym left ∙ goes (symbol ∷ [])
 ends_alone tokens place symbol (Some next) old new left goes none = absurd cc

@@ -14,9 +14,9 @@ label_len [] = 0
 label_len (symbol ∷ symbols) = if is_bare_octet 46 symbol then 0 else label_len symbols + 1
 
 -- the parts that symbols spell, where there are symbols
-abbrev pub labels_of : List Symbol → List (List ℕ)
-labels_of [] = []
-labels_of (symbol ∷ symbols) = without_final_dot (dotted_parts (symbol ∷ symbols))
+abbrev pub spelled_labels : List Symbol → List (List ℕ)
+spelled_labels [] = []
+spelled_labels (symbol ∷ symbols) = without_final_dot (dotted_parts (symbol ∷ symbols))
 
 -- labels, each behind its length
 abbrev pub lengths_and_labels : List (List ℕ) → List ℕ
@@ -24,4 +24,4 @@ lengths_and_labels labels = flat_map (λ label. length label ∷ label) labels
 
 -- the octets of the name whose labels symbols spell
 abbrev pub wire_of : List Symbol → Result (List ℕ) ScanError
-wire_of symbols = ok_or (option_map name_wire (if_labels (labels_of symbols))) BadName
+wire_of symbols = ok_or (option_map name_wire (if_labels (spelled_labels symbols))) BadName

@@ -8,7 +8,7 @@ use Rattle.text_spec.specs.declared.lexeme.Front.{Front}
 use Rattle.text_spec.specs.declared.lexeme.Lexeme.{Lexeme}
 use Rattle.text_spec.specs.declared.lexeme.Lexeme.TheVariants.{Gap}
 use Rattle.text_spec.specs.Lexing.{with_front}
-use Rattle.text_spec.specs.Pieces.{grouped}
+use Rattle.text_spec.specs.Pieces.{token_groups}
 use Rattle.text_spec.specs.Scanning.{Scan}
 
 -- what is read lies in the text, and opens at most one bracket
@@ -32,12 +32,12 @@ BeginsToken (lexeme ∷ lexemes) = Unit {0}
 -- the next symbol of the token that is read, or none where the token ends
 abbrev pub GoesOn : Option Symbol → List Lexeme → List Lexeme → Type 0
 GoesOn (Some symbol) old new =
-    (token : List Symbol) → grouped (Some token) old ≡ grouped (Some (token ++ symbol ∷ [])) new
-GoesOn None old new = (token : List Symbol) → grouped (Some token) old ≡ token ∷ grouped None new
+    (token : List Symbol) → token_groups (Some token) old ≡ token_groups (Some (token ++ symbol ∷ [])) new
+GoesOn None old new = (token : List Symbol) → token_groups (Some token) old ≡ token ∷ token_groups None new
 
 -- the count of the next token's symbols
 abbrev pub token_len : List Lexeme → ℕ
-token_len lexemes = option_map_or (λ token. length token) (slice_get (grouped None lexemes) 0) 0
+token_len lexemes = option_map_or (λ token. length token) (slice_get (token_groups None lexemes) 0) 0
 
 -- a token is left, and these tokens are left behind it
 pub record IsBehindNext (scan : Scan) (left : List (List Symbol)) : Type 0 where

@@ -49,7 +49,7 @@ pub fn scan_unknown<S: Scanner>(
 {
     let place = scanner.taken();
     let outcome = scan_counted(alloc, scanner);
-    let octets = scanner.stay_without_memory(place, outcome)?;
+    let octets = scanner.rewind_on_no_memory(place, outcome)?;
     match UnknownRecordData::new(rtype, octets) {
         Ok(data) => Ok(data),
         Err(_) => unreachable!(),
@@ -64,7 +64,7 @@ fn scan_ipv4<S: Scanner>(alloc: Global, scanner: &mut S) -> Result<Ipv4Addr, Sca
     let place = scanner.taken();
     let text = scanner.scan_octets(alloc)?;
     let outcome = Ipv4Addr::from_bytes(text.as_slice()).ok_or(ScanError::BadAddress);
-    scanner.stay_unless_ok(place, outcome)
+    scanner.rewind_unless_ok(place, outcome)
 }
 
 /// The IPv6 address that the next token spells.
@@ -75,7 +75,7 @@ fn scan_ipv6<S: Scanner>(alloc: Global, scanner: &mut S) -> Result<Ipv6Addr, Sca
     let place = scanner.taken();
     let text = scanner.scan_octets(alloc)?;
     let outcome = Ipv6Addr::from_bytes(text.as_slice()).ok_or(ScanError::BadAddress);
-    scanner.stay_unless_ok(place, outcome)
+    scanner.rewind_unless_ok(place, outcome)
 }
 
 /// A count, and that many octets in base16. Where memory is wanting, the count may be taken.

@@ -1,7 +1,7 @@
 //! The scanner of one entry.
 
 ghost use Rattle.std.specs.Prelude.{◌≡◌, ◌≤◌, ◌<◌, ◌+◌, ◌==◌, ◌&&◌, [], Ok, Some, None, length, drop, IfOk, IfErr, OnOk, OnErr};
-ghost use Rattle.text_spec.specs.Pieces.{grouped};
+ghost use Rattle.text_spec.specs.Pieces.{token_groups};
 ghost use Rattle.text_spec.specs.Tokens.{tokens_in};
 ghost use Rattle.text_spec.specs.Scanning.{Answers, next_token, any_octets};
 ghost use Rattle.dns_text.specs.Reading.{IsBehindNext};
@@ -31,7 +31,7 @@ pub struct EntryScanner<'t> {
 
 impl<'t> Model for EntryScanner<'t> {
     ghost use Rattle.std.specs.Prelude.{◌≡◌, ◌≤◌, ◌<◌, ◌^◌, length, drop, None};
-    ghost use Rattle.text_spec.specs.Pieces.{grouped};
+    ghost use Rattle.text_spec.specs.Pieces.{token_groups};
     ghost use Rattle.text_spec.specs.Tokens.{tokens_in};
     ghost use Rattle.text_spec.specs.Scanning.{Scan};
 
@@ -43,7 +43,7 @@ impl<'t> Model for EntryScanner<'t> {
     } };
 
     ghost invariant = { λ scanner. record {
-      left : grouped None scanner.lexemes ≡ drop scanner.taken (tokens_in scanner.entry.text.now);
+      left : token_groups None scanner.lexemes ≡ drop scanner.taken (tokens_in scanner.entry.text.now);
       within : scanner.taken ≤ length (tokens_in scanner.entry.text.now);
       short : length (tokens_in scanner.entry.text.now) < 2 ^ 64;
     } };
@@ -64,7 +64,7 @@ impl<'t> EntryScanner<'t> {
     // The lexemes from the next token on.
     fn next_token(&self) -> Result<Lexemes<'t>, ScanError>
         ensures left { IfOk result (λ lexemes.
-            grouped (Some []) lexemes ≡ drop self.now.taken self.now.tokens) }
+            token_groups (Some []) lexemes ≡ drop self.now.taken self.now.tokens) }
         ensures more { OnOk result (self.now.taken < length self.now.tokens) }
         ensures end { OnErr result (length self.now.tokens ≤ self.now.taken) }
         ensures err { IfErr result (λ fault. fault ≡ ScanError.EndOfEntry) }
@@ -81,7 +81,7 @@ impl<'t> EntryScanner<'t> {
         ensures answer { Answers (λ found. found.0.items) result
             (next_token Ok self.now.tokens self.now.taken) }
         ensures behind { IfOk result (λ found.
-            IsBehindNext self.now (grouped None found.1)) }
+            IsBehindNext self.now (token_groups None found.1)) }
     {
         let mut lexemes = self.next_token()?;
         let mut symbols = Vec::with_capacity(alloc, lexemes.token_len())?;
@@ -96,7 +96,7 @@ impl<'t> EntryScanner<'t> {
         ensures answer { Answers (λ found. found.0) result
             (next_token any_octets self.now.tokens self.now.taken) }
         ensures behind { IfOk result (λ found.
-            IsBehindNext self.now (grouped None found.1)) }
+            IsBehindNext self.now (token_groups None found.1)) }
     {
         let mut lexemes = self.next_token()?;
         let mut octets = Vec::with_capacity(alloc, lexemes.token_len())?;
@@ -108,7 +108,7 @@ impl<'t> EntryScanner<'t> {
 
     // Takes the next token, behind which these lexemes are left.
     fn take(&mut self, behind: Lexemes<'t>)
-        requires { IsBehindNext self.old (grouped None behind) }
+        requires { IsBehindNext self.old (token_groups None behind) }
         ensures { self.new ≡ record self.old { taken = self.old.taken + 1 } }
     {
         self.lexemes = behind;

@@ -1,7 +1,7 @@
 //! The lexemes of an entry, which its tokens are made of.
 
 ghost use Rattle.std.specs.Prelude.{◌≡◌, ◌≤◌, ◌<◌, ◌^◌, [], ◌∷◌, length, drop, None, IsSome, MatchOption, MatchBool};
-ghost use Rattle.text_spec.specs.Pieces.{grouped};
+ghost use Rattle.text_spec.specs.Pieces.{token_groups};
 ghost use Rattle.text_spec.specs.Tokens.{tokens_in};
 ghost use Rattle.dns_text.specs.Reading.{BeginsToken, GoesOn, token_len};
 
@@ -35,7 +35,7 @@ impl<'t> Model for Lexemes<'t> {
 
 impl<'t> Lexemes<'t> {
     pub(crate) fn new(entry: Entry<'t>) -> Lexemes<'t>
-        ensures { grouped None result ≡ tokens_in entry.entry.text.now }
+        ensures { token_groups None result ≡ tokens_in entry.entry.text.now }
     {
         Lexemes {
             lexer: Lexer::new(entry.text),
@@ -61,7 +61,7 @@ impl<'t> Lexemes<'t> {
 
     /// Goes on to the next token, and says whether there is one.
     pub(crate) fn find_token(&mut self) -> bool
-        ensures tokens { grouped None self.new ≡ grouped None self.old }
+        ensures tokens { token_groups None self.new ≡ token_groups None self.old }
         ensures found { MatchBool result (BeginsToken self.new) (self.new ≡ []) }
         ensures no_longer { length self.new ≤ length self.old }
     {
@@ -91,7 +91,7 @@ impl<'t> Lexemes<'t> {
 
     /// Passes over the next token.
     pub(crate) fn pass_token(&mut self)
-        ensures { grouped None self.new ≡ drop 1 (grouped None self.old) }
+        ensures { token_groups None self.new ≡ drop 1 (token_groups None self.old) }
     {
         if self.find_token() {
             while self.next_symbol().is_some() {}

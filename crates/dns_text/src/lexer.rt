@@ -2,7 +2,7 @@
 
 ghost use Rattle.std.specs.Prelude.{◌≡◌, ◌==◌, ◌+◌, ◌^◌, ◌≤◌, ◌<◌, [], length, IsSome, IfSome, IfOk, MatchResult};
 ghost use Rattle.text_spec.specs.Pieces.{is_blank, is_control};
-ghost use Rattle.text_spec.specs.Lexing.{escape_of, line_len, reads, with_depth, in_quotes, symbol_step, quoted_step, ended_step, open_step, step, lexemes_at, end_at};
+ghost use Rattle.text_spec.specs.Lexing.{escape_of, line_len, front_of, with_depth, in_quotes, symbol_step, quoted_step, ended_step, open_step, step, lexemes_at, end_at};
 ghost use Rattle.text_spec.specs.Tokens.{start};
 ghost use Rattle.dns_text.specs.Reading.{StaysWithin, Takes};
 
@@ -56,7 +56,7 @@ fn is_control(octet: u8) -> bool
 }
 
 fn gap(place: Place, len: usize) -> Result<Front, ScanError>
-    ensures { result ≡ reads Lexeme.Gap place len }
+    ensures { result ≡ front_of Lexeme.Gap place len }
 {
     Ok(Front {
         lexeme: Lexeme::Gap,
@@ -67,20 +67,20 @@ fn gap(place: Place, len: usize) -> Result<Front, ScanError>
 
 // A line's end in the entry, which ends it outside brackets.
 fn line_end(place: Place) -> Result<Front, ScanError>
-    ensures { result ≡ reads Lexeme.Gap (record place { ended = place.depth == 0 }) 0 }
+    ensures { result ≡ front_of Lexeme.Gap (record place { ended = place.depth == 0 }) 0 }
 {
     let ended = place.depth == 0;
     gap(Place { ended, ..place }, 0)
 }
 
 fn bracket(place: Place, depth: usize) -> Result<Front, ScanError>
-    ensures { result ≡ reads Lexeme.Gap (with_depth place depth) 0 }
+    ensures { result ≡ front_of Lexeme.Gap (with_depth place depth) 0 }
 {
     gap(Place { depth, ..place }, 0)
 }
 
 fn quote(place: Place, quoted: bool) -> Result<Front, ScanError>
-    ensures { result ≡ reads Lexeme.Quote (in_quotes place quoted) 0 }
+    ensures { result ≡ front_of Lexeme.Quote (in_quotes place quoted) 0 }
 {
     Ok(Front {
         lexeme: Lexeme::Quote,

@@ -52,7 +52,7 @@ pub trait Scanner {
 
     /// The outcome of a scan that began where so many tokens were taken. Where it is refused, the scanner goes back
     /// there.
-    fn stay_unless_ok<T>(
+    fn rewind_unless_ok<T>(
         &mut self,
         place: usize,
         outcome: Result<T, ScanError>,
@@ -70,7 +70,7 @@ pub trait Scanner {
 
     /// The outcome of a scan of several tokens that began where so many tokens were taken. Where memory was wanting,
     /// the scanner goes back there; any other refusal stands where it stood.
-    fn stay_without_memory<T>(
+    fn rewind_on_no_memory<T>(
         &mut self,
         place: usize,
         outcome: Result<T, ScanError>,
@@ -112,7 +112,7 @@ pub trait Scanner {
         let place = self.taken();
         let symbols = self.scan_symbols(alloc)?;
         let outcome = join_symbols(alloc, symbols.as_slice());
-        self.stay_unless_ok(place, outcome)
+        self.rewind_unless_ok(place, outcome)
     }
 
     /// The number of at most 255 that the next token spells: an optional `+`, then decimal digits.
@@ -126,7 +126,7 @@ pub trait Scanner {
         let place = self.taken();
         let octets = self.scan_octets(alloc)?;
         let outcome = u8::from_text(octets.as_slice()).ok_or(ScanError::BadNumber);
-        self.stay_unless_ok(place, outcome)
+        self.rewind_unless_ok(place, outcome)
     }
 
     /// The number of at most 65,535 that the next token spells: an optional `+`, then decimal digits.
@@ -140,7 +140,7 @@ pub trait Scanner {
         let place = self.taken();
         let octets = self.scan_octets(alloc)?;
         let outcome = u16::from_text(octets.as_slice()).ok_or(ScanError::BadNumber);
-        self.stay_unless_ok(place, outcome)
+        self.rewind_unless_ok(place, outcome)
     }
 
     /// The number of at most 4,294,967,295 that the next token spells: an optional `+`, then decimal digits.
@@ -154,7 +154,7 @@ pub trait Scanner {
         let place = self.taken();
         let octets = self.scan_octets(alloc)?;
         let outcome = read_u32(octets.as_slice()).ok_or(ScanError::BadNumber);
-        self.stay_unless_ok(place, outcome)
+        self.rewind_unless_ok(place, outcome)
     }
 
     /// The number of a registry that the next token spells.
@@ -168,7 +168,7 @@ pub trait Scanner {
         let place = self.taken();
         let octets = self.scan_octets(alloc)?;
         let outcome = T::from_bytes(octets.as_slice()).ok_or(ScanError::BadNumber);
-        self.stay_unless_ok(place, outcome)
+        self.rewind_unless_ok(place, outcome)
     }
 
     /// The name that the next token spells (RFC 1035, section 5.1), which is absolute with a final dot and without one.
@@ -182,7 +182,7 @@ pub trait Scanner {
         let place = self.taken();
         let symbols = self.scan_symbols(alloc)?;
         let outcome = read_name(alloc, symbols.as_slice());
-        self.stay_unless_ok(place, outcome)
+        self.rewind_unless_ok(place, outcome)
     }
 
     /// The octets of all tokens left, joined; none where no token is left.
@@ -195,9 +195,9 @@ pub trait Scanner {
         let mut octets = Vec::new(alloc);
         while self.continues() {
             let next = self.scan_octets(alloc);
-            let next = self.stay_unless_ok(place, next)?;
+            let next = self.rewind_unless_ok(place, next)?;
             let appended = append_octets(&mut octets, next.as_slice());
-            self.stay_unless_ok(place, appended)?;
+            self.rewind_unless_ok(place, appended)?;
         }
         Ok(Octets::from_vec(octets))
     }
@@ -212,7 +212,7 @@ pub trait Scanner {
         let place = self.taken();
         let text = self.scan_rest(alloc)?;
         let outcome = decode_base64(alloc, text.as_slice());
-        self.stay_unless_ok(place, outcome)
+        self.rewind_unless_ok(place, outcome)
     }
 
     /// The octets that all tokens left, joined, spell in base16 (RFC 4648, section 8), in either case; none where no
@@ -226,7 +226,7 @@ pub trait Scanner {
         let place = self.taken();
         let text = self.scan_rest(alloc)?;
         let outcome = decode_base16(alloc, text.as_slice());
-        self.stay_unless_ok(place, outcome)
+        self.rewind_unless_ok(place, outcome)
     }
 }
 

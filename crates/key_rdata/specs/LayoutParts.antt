@@ -15,12 +15,12 @@ type_items found = Token (decimal (gateway_type found.gateway)) ∷ Comment (typ
 abbrev pub algorithm_items : Ipseckey → List Item
 algorithm_items found = Token (decimal found.algorithm) ∷ Comment (algorithm_comment found.algorithm) ∷ Comment (codes "algorithm") ∷ []
 
-abbrev pub numbers_items : Ipseckey → List Item
-numbers_items found = precedence_items found ++ type_items found ++ algorithm_items found
+abbrev pub ipseckey_numbers_items : Ipseckey → List Item
+ipseckey_numbers_items found = precedence_items found ++ type_items found ++ algorithm_items found
 
 abbrev pub key_items : Ipseckey → List Item
 key_items found = gateway_document found.gateway ++ Comment (codes "gateway") ∷ Token (base64_text found.key) ∷ []
 
 -- what stands in the block
 abbrev pub fields_items : Ipseckey → List Item
-fields_items found = numbers_items found ++ key_items found
+fields_items found = ipseckey_numbers_items found ++ key_items found

@@ -65,12 +65,12 @@ impl PartialOrd for IpseckeyGateway {
 
 /// The type, and the address or the name's octets in lower case.
 impl Hash for IpseckeyGateway {
-    ghost use Rattle.record_spec.specs.IpseckeyComparing.{gateway_fed, same_gateway_fed};
+    ghost use Rattle.record_spec.specs.IpseckeyComparing.{gateway_hash_input, same_gateway_hash_input};
     ghost use Rattle.key_rdata.specs.GatewayView.{gateway_of};
 
-    ghost hash_input = { λ gateway. gateway_fed (gateway_of gateway) };
+    ghost hash_input = { λ gateway. gateway_hash_input (gateway_of gateway) };
 
-    ghost respects_eq = { λ g h. same_gateway_fed (gateway_of g) (gateway_of h) };
+    ghost respects_eq = { λ g h. same_gateway_hash_input (gateway_of g) (gateway_of h) };
 
     fn hash<H: Hasher>(&self, state: &mut H) {
         self.gateway_type().hash(state);

@@ -50,7 +50,7 @@ fn scan_dot<S: Scanner>(alloc: Global, scanner: &mut S) -> Result<IpseckeyGatewa
         b"." => Ok(IpseckeyGateway::None),
         _ => Err(ScanError::WrongGateway),
     };
-    scanner.stay_unless_ok(place, outcome)
+    scanner.rewind_unless_ok(place, outcome)
 }
 
 /// A dot where there is none, the text of an address, or a name with its final dot.

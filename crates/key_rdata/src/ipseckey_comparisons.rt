@@ -70,11 +70,11 @@ impl PartialOrd for Ipseckey {
 
 /// All fields, the name of a gateway as its octets in lower case.
 impl Hash for Ipseckey {
-    ghost use Rattle.record_spec.specs.IpseckeyComparing.{ipseckey_fed, same_ipseckey_fed};
+    ghost use Rattle.record_spec.specs.IpseckeyComparing.{ipseckey_hash_input, same_ipseckey_hash_input};
 
-    ghost hash_input = { ipseckey_fed };
+    ghost hash_input = { ipseckey_hash_input };
 
-    ghost respects_eq = { same_ipseckey_fed };
+    ghost respects_eq = { same_ipseckey_hash_input };
 
     fn hash<H: Hasher>(&self, state: &mut H) {
         self.precedence().hash(state);

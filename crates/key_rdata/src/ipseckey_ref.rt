@@ -36,7 +36,7 @@ impl<'a> IpseckeyRef<'a> {
         let gateway_type = IpseckeyGatewayType::from(parser.parse_u8()?);
         let algorithm = IpseckeyAlgorithm::from(parser.parse_u8()?);
         let gateway = GatewayRef::read(parser, gateway_type)?;
-        let key = parser.peek_all();
+        let key = parser.remaining_octets();
         if lacks_key(algorithm, key) {
             return Err(ParseError::ShortInput);
         }

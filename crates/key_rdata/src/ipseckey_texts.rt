@@ -7,11 +7,11 @@ ghost use Rattle.record_spec.specs.IpseckeyTexts.{scan_ipseckey, ipseckey_printe
 ghost use Rattle.dns_text.specs.Writing.{Shows};
 ghost use Rattle.record_spec.specs.DocumentLaws.{document-ipseckey};
 ghost use Rattle.key_rdata.specs.ScanningParts.{scan_behind_numbers};
-ghost use Rattle.key_rdata.specs.LayoutParts.{fields_items, numbers_items, precedence_items, type_items, algorithm_items, key_items};
+ghost use Rattle.key_rdata.specs.LayoutParts.{fields_items, ipseckey_numbers_items, precedence_items, type_items, algorithm_items, key_items};
 
 use crate::gateway::IpseckeyGateway;
 use crate::ipseckey::{Ipseckey, lacks_key};
-use digest_rdata::LastText;
+use digest_rdata::EncodedOctets;
 use record_spec::Encoding;
 use dns_text::{Formatter, Scanner, ZonefileFmt};
 use key_registry::{IpseckeyAlgorithm, IpseckeyGatewayType};
@@ -45,7 +45,7 @@ impl Ipseckey {
     {
         let place = scanner.taken();
         let outcome = scan_fields(alloc, scanner);
-        scanner.stay_without_memory(place, outcome)
+        scanner.rewind_on_no_memory(place, outcome)
     }
 }
 
@@ -100,7 +100,7 @@ impl fmt::Display for Ipseckey {
         let gateway_type = self.gateway_type();
         let algorithm = self.algorithm();
         let gateway = self.gateway();
-        let key = LastText {
+        let key = EncodedOctets {
             octets: self.key().as_slice(),
             encoding: Encoding::Base64,
             in_brackets: true,
@@ -135,7 +135,7 @@ impl Ipseckey {
 
     /// Lays out the precedence, the gateway's type and the algorithm.
     fn lay_out_numbers(&self, f: &mut Formatter) -> Result<(), NoMemory>
-        ensures { Shows f.old (numbers_items self.now) f.new result }
+        ensures { Shows f.old (ipseckey_numbers_items self.now) f.new result }
     {
         self.lay_out_precedence(f)?;
         self.lay_out_type(f)?;

@@ -9,7 +9,7 @@ use Rattle.std.specs.Cmp.Lexicographic.{slice_cmp}
 use Rattle.std.proofs.lemmas.List.{map-append, reverse-append, length-map, length-reverse, length-take, length-drop, take_at, drop_at}
 use Rattle.std.proofs.lemmas.Bool.Decides.{nat_tests}
 use Rattle.name_spec.specs.Names.{name_wire, AreLabels}
-use Rattle.name_spec.specs.OwnedNames.{lowered, is_same_name, from_last, name_cmp, lowered_wire}
+use Rattle.name_spec.specs.OwnedNames.{in_lower_case, is_same_name, from_last, name_cmp, lowered_wire}
 use Rattle.name_spec.specs.NameOrderLaws.{same_lowered, lowered_wire-same}
 
 -- ---- equality by octets
@@ -32,7 +32,7 @@ lowered_wire-label octets label labels are =
     ∙ ap (λ (rest : List ℕ). length label ∷ rest) (map-append to_ascii_lowercase label (name_wire labels))
 
 -- names with the same octets in lower case have the same labels in lower case
-lowered-same : (octets octets' : ℕ) (xs ys : List (List ℕ)) → AreLabels octets xs → AreLabels octets' ys → lowered_wire xs ≡ lowered_wire ys → lowered xs ≡ lowered ys
+lowered-same : (octets octets' : ℕ) (xs ys : List (List ℕ)) → AreLabels octets xs → AreLabels octets' ys → lowered_wire xs ≡ lowered_wire ys → in_lower_case xs ≡ in_lower_case ys
 lowered-same octets octets' [] [] are are' same = refl
 lowered-same octets octets' [] (y ∷ ys) are are' same = absurd (let wire = lowered_wire-label octets' y ys are' in let none : 0 ≡ length y = cc in omega (arith, are'.0))
 lowered-same octets octets' (x ∷ xs) [] are are' same = absurd (let wire = lowered_wire-label octets x xs are in let none : length x ≡ 0 = cc in omega (arith, are.0))
@@ -81,10 +81,10 @@ slice_cmp-append (x ∷ xs) (y ∷ ys) us vs len =
     ap (ordering_then (label_cmp x y)) (slice_cmp-append xs ys us vs more) ∙ sym (then_assoc (label_cmp x y) (slice_cmp label_cmp xs ys) (slice_cmp label_cmp us vs))
 
 length-from_last : (labels : List (List ℕ)) → length (from_last labels) ≡ length labels
-length-from_last labels = length-reverse (lowered labels) ∙ length-map labels (map to_ascii_lowercase)
+length-from_last labels = length-reverse (in_lower_case labels) ∙ length-map labels (map to_ascii_lowercase)
 
 from_last-append : (front back : List (List ℕ)) → from_last (front ++ back) ≡ from_last back ++ from_last front
-from_last-append front back = ap reverse (map-append (map to_ascii_lowercase) front back) ∙ reverse-append (lowered front) (lowered back)
+from_last-append front back = ap reverse (map-append (map to_ascii_lowercase) front back) ∙ reverse-append (in_lower_case front) (in_lower_case back)
 
 from_last-label : (label : List ℕ) (labels : List (List ℕ)) → from_last (label ∷ labels) ≡ from_last labels ++ map to_ascii_lowercase label ∷ []
 from_last-label label labels = from_last-append (label ∷ []) labels

@@ -9,7 +9,7 @@ use Rattle.std.specs.Hash.{HashWrites}
 use Rattle.std.specs.Cmp.Lexicographic.{pointwise, slice_cmp, pointwise_decides, bytes_decides, lists_ties, texts_ties}
 use Rattle.std.proofs.lemmas.List.{map-append, reverse-reverse, length-map}
 use Rattle.name_spec.specs.Names.{name_wire}
-use Rattle.name_spec.specs.OwnedNames.{lowered, is_same_name, from_last, name_cmp, lowered_wire}
+use Rattle.name_spec.specs.OwnedNames.{in_lower_case, is_same_name, from_last, name_cmp, lowered_wire}
 
 -- ---- equality
 
@@ -17,14 +17,14 @@ labels_decide : (xs ys : List (List ℕ)) → Decides (pointwise (pointwise ◌=
 labels_decide = pointwise_decides bytes_decides
 
 -- names are the same exactly if their labels are equal in lower case
-pub same_lowered : (xs ys : List (List ℕ)) → Decides (is_same_name xs ys) (lowered xs ≡ lowered ys)
-same_lowered xs ys = labels_decide (lowered xs) (lowered ys)
+pub same_lowered : (xs ys : List (List ℕ)) → Decides (is_same_name xs ys) (in_lower_case xs ≡ in_lower_case ys)
+same_lowered xs ys = labels_decide (in_lower_case xs) (in_lower_case ys)
 
 -- the order finds equal what is the same name
 pub same_name_ties : (xs ys : List (List ℕ)) → is_same_name xs ys ≡ eq_by_cmp name_cmp xs ys
 same_name_ties xs ys =
     let turned = labels_decide (from_last xs) (from_last ys) in
-    let back : from_last xs ≡ from_last ys → lowered xs ≡ lowered ys = λ same. sym (reverse-reverse (lowered xs)) ∙ ap reverse same ∙ reverse-reverse (lowered ys) in
+    let back : from_last xs ≡ from_last ys → in_lower_case xs ≡ in_lower_case ys = λ same. sym (reverse-reverse (in_lower_case xs)) ∙ ap reverse same ∙ reverse-reverse (in_lower_case ys) in
     one_answer _ _ (same_lowered xs ys) (λ is. back (turned.0 is), λ same. turned.1 (ap reverse same))
     ∙ lists_ties (slice_cmp nat_cmp) texts_ties (from_last xs) (from_last ys)
 
@@ -35,7 +35,7 @@ abbrev wire_of_lowered : List (List ℕ) → List ℕ
 wire_of_lowered [] = to_ascii_lowercase 0 ∷ []
 wire_of_lowered (label ∷ labels) = to_ascii_lowercase (length label) ∷ label ++ wire_of_lowered labels
 
-wire_of_lowered-lowered : (labels : List (List ℕ)) → lowered_wire labels ≡ wire_of_lowered (lowered labels)
+wire_of_lowered-lowered : (labels : List (List ℕ)) → lowered_wire labels ≡ wire_of_lowered (in_lower_case labels)
 wire_of_lowered-lowered [] = refl
 wire_of_lowered-lowered (label ∷ labels) =
     let len : to_ascii_lowercase (length label) ≡ to_ascii_lowercase (length (map to_ascii_lowercase label)) = ap to_ascii_lowercase (sym (length-map label to_ascii_lowercase)) in

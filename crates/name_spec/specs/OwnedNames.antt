@@ -20,16 +20,16 @@ name_in octets =
     else name_at octets end 0 0 0 >>= labels_to end
 
 -- labels with A to Z as a to z
-abbrev pub lowered : List (List ℕ) → List (List ℕ)
-lowered labels = map (map to_ascii_lowercase) labels
+abbrev pub in_lower_case : List (List ℕ) → List (List ℕ)
+in_lower_case labels = map (map to_ascii_lowercase) labels
 
 -- equal labels, ASCII case ignored (RFC 4343, section 3)
 abbrev pub is_same_name : List (List ℕ) → List (List ℕ) → Bool
-is_same_name = on lowered (pointwise (pointwise ◌==◌))
+is_same_name = on in_lower_case (pointwise (pointwise ◌==◌))
 
 -- the labels from the last to the first, in lower case
 abbrev pub from_last : List (List ℕ) → List (List ℕ)
-from_last labels = reverse (lowered labels)
+from_last labels = reverse (in_lower_case labels)
 
 -- the canonical order (RFC 4034, section 6.1): labels from the last to the first, each by its octets in lower case, and
 -- the name with fewer labels first

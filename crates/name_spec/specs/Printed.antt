@@ -9,10 +9,10 @@ pub data Written : Type 0 where
   Decimal : (octet : ℕ) → Written
 
 -- the text of an octet that is written so
-abbrev pub written : Written → List ℕ
-written (Plain octet) = octet ∷ []
-written (Escaped octet) = 92 ∷ octet ∷ []
-written (Decimal octet) = 92 ∷ (48 + octet / 100) ∷ (48 + octet / 10 % 10) ∷ (48 + octet % 10) ∷ []
+abbrev pub octet_text : Written → List ℕ
+octet_text (Plain octet) = octet ∷ []
+octet_text (Escaped octet) = 92 ∷ octet ∷ []
+octet_text (Decimal octet) = 92 ∷ (48 + octet / 100) ∷ (48 + octet / 10 % 10) ∷ (48 + octet % 10) ∷ []
 
 -- space, `"`, `\`, `;`, `(` and `)`, which are printed behind a backslash
 abbrev pub is_special : ℕ → Bool
@@ -32,7 +32,7 @@ printed_as special c = if special c then Escaped c else if is_visible c then Pla
 
 -- the text of an octet
 abbrev pub printed_octet : (ℕ → Bool) → ℕ → List ℕ
-printed_octet special c = written (printed_as special c)
+printed_octet special c = octet_text (printed_as special c)
 
 -- the text of octets
 abbrev pub printed_octets : List ℕ → List ℕ

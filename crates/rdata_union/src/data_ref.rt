@@ -8,7 +8,7 @@ ghost use Rattle.record_spec.specs.RecordData.{rtype_of, union_wire};
 ghost use Rattle.record_spec.specs.UnionTexts.{union_printed};
 ghost use Rattle.record_spec.specs.UnionDocumentLaws.{union_document};
 ghost use Rattle.rdata_union.specs.Views.{data_of_all, data_seen};
-ghost use Rattle.rdata_union.specs.Comparing.{is_same_data, union_cmp, union_fed, unknown_rank};
+ghost use Rattle.rdata_union.specs.Comparing.{is_same_union, union_cmp, union_hash_input, unknown_rank};
 
 use crate::all_data::AllRecordData;
 use digest_rdata::{Cds, Sshfp, Tlsa, Zonemd};
@@ -173,7 +173,7 @@ impl RecordDataRef<'_> {
 
     /// Whether the data is equal.
     pub(crate) fn is_same(self, other: RecordDataRef<'_>) -> bool
-        ensures { result ≡ is_same_data (data_seen self.entry) (data_seen other.entry) }
+        ensures { result ≡ is_same_union (data_seen self.entry) (data_seen other.entry) }
     {
         match (self, other) {
             (RecordDataRef::A(found), RecordDataRef::A(other)) => found == other,
@@ -220,7 +220,7 @@ impl RecordDataRef<'_> {
 
     /// Feeds the number of the type and what the data holds.
     pub(crate) fn feed<H: Hasher>(self, state: &mut H)
-        ensures { state.new ≡ fold H.write state.old (union_fed (data_seen self.entry)) }
+        ensures { state.new ≡ fold H.write state.old (union_hash_input (data_seen self.entry)) }
     {
         self.rtype().hash(state);
         match self {

@@ -66,7 +66,7 @@ impl ZoneRecordData {
     {
         let place = scanner.taken();
         let outcome = scan_whole(alloc, rtype, scanner);
-        scanner.stay_without_memory(place, outcome)
+        scanner.rewind_on_no_memory(place, outcome)
     }
 
     /// A copy.

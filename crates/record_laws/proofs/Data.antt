@@ -19,11 +19,11 @@ use Rattle.text_spec.proofs.Splits.{layout_splits}
 use Rattle.text_spec.proofs.TokenTexts.{EntryText}
 use Rattle.record_spec.specs.declared.Encoding.{Encoding}
 use Rattle.record_spec.specs.declared.Encoding.TheVariants.{Base16, Base64}
-use Rattle.record_spec.specs.Rows.{Row, Data, IsData, data_len}
-use Rattle.record_spec.specs.Texts.{rest_encoded, scan_last, scan_data, within_length, last_printed, data_printed}
-use Rattle.record_spec.specs.Documents.{numbers_items, encoded, data_document}
+use Rattle.record_spec.specs.Rows.{Row, Data, IsAssociationData, data_len}
+use Rattle.record_spec.specs.Texts.{rest_encoded, scan_last, scan_data, within_length, last_printed, fields_printed}
+use Rattle.record_spec.specs.Documents.{numbers_items, last_field_text, data_document}
 use Rattle.record_spec.specs.DocumentLaws.{document-data}
-use Rattle.record_laws.specs.RecordLaws.{AreSmall, DataTextReadBack, DataLayoutReadBack}
+use Rattle.record_laws.specs.RecordLaws.{AreSmall, FieldsTextReadBack, FieldsLayoutReadBack}
 use Rattle.record_laws.proofs.Scans.{assoc, rest_taken, within}
 use Rattle.record_laws.proofs.Texts.{number_token, number_tokens, each_small, numbers_scanned, numbers_on, numbers_front, text_tokens, octets-text_tokens, bare_text, bracketed_text, last_front, text_of}
 
@@ -78,7 +78,7 @@ last_text Base16 true octets are = bracketed_text (base16_text octets) (ArePlain
 last_text Base64 false octets are = bare_text (base64_text octets) (ArePlain-base64 octets are)
 last_text Base64 true octets are = bracketed_text (base64_text octets) (ArePlain-base64 octets are)
 
-encoded_is : (encoding : Encoding) (octets : List ℕ) → inner_text encoding true octets ≡ encoded encoding octets
+encoded_is : (encoding : Encoding) (octets : List ℕ) → inner_text encoding true octets ≡ last_field_text encoding octets
 encoded_is Base16 octets = refl
 encoded_is Base64 octets = refl
 
@@ -89,7 +89,7 @@ abbrev data_tokens : Data → List ℕ → List (List Symbol)
 data_tokens found text = number_tokens found.numbers ++ text_tokens text
 
 -- they are scanned as it
-data_scanned : (row : Row) (found : Data) (text : List ℕ) → AreSmall row.fields → IsData row found → IsRead row.encoding text found.last
+data_scanned : (row : Row) (found : Data) (text : List ℕ) → AreSmall row.fields → IsAssociationData row found → IsRead row.encoding text found.last
     → scan_data row (data_tokens found text) 0 ≡ done found (length (data_tokens found text))
 data_scanned row found text small is read =
     let tokens = data_tokens found text in
@@ -101,29 +101,29 @@ data_scanned row found text small is read =
     ∙ ap (λ (s : Scanned (List ℕ)). scan_then s onward) (rest_scanned row.encoding text found.last front read)
     ∙ within (data_len row found) (length tokens) LongRecord found is.fits
 
-pub data_text_again : DataTextReadBack
+pub data_text_again : FieldsTextReadBack
 data_text_again row is_row found is =
     let text = inner_text row.encoding row.in_brackets found.last in
     let last = last_printed row.encoding row.in_brackets found.last in
     let small = each_small row.fields found.numbers is_row.small is.numbers in
-    text_of (scan_data row) (data_printed row found) found (data_tokens found text)
+    text_of (scan_data row) (fields_printed row found) found (data_tokens found text)
     (numbers_on found.numbers last (text_tokens text) small (last_text row.encoding row.in_brackets found.last is.octets))
     (data_scanned row found text is_row.small is (inner_read row.encoding row.in_brackets found.last is.octets))
 
 -- ---- layouts
 
-data_front : (row : Row) (found : Data) → AreSmall row.fields → IsData row found
-    → AreTokenTexts (data_document row found) (data_tokens found (encoded row.encoding found.last))
+data_front : (row : Row) (found : Data) → AreSmall row.fields → IsAssociationData row found
+    → AreTokenTexts (data_document row found) (data_tokens found (last_field_text row.encoding found.last))
 data_front row found small is =
-    let text = encoded row.encoding found.last in
+    let text = last_field_text row.encoding found.last in
     let plain = subst ArePlain (encoded_is row.encoding found.last) (inner_plain row.encoding true found.last is.octets) in
     let items = numbers_items row.fields found.numbers in
     subst (λ (all : List _). AreTokenTexts (BlockBegin ∷ all) (data_tokens found text)) (sym (assoc items (Token text ∷ []) (BlockEnd ∷ [])))
     (numbers_front row.fields found.numbers (Token text ∷ BlockEnd ∷ []) (text_tokens text) is.numbers (each_small row.fields found.numbers small is.numbers) (last_front text plain))
 
-pub data_layout_again : DataLayoutReadBack
+pub data_layout_again : FieldsLayoutReadBack
 data_layout_again row is_row found is kind =
-    let text = encoded row.encoding found.last in
+    let text = last_field_text row.encoding found.last in
     let read = subst (λ t. IsRead row.encoding t found.last) (encoded_is row.encoding found.last) (inner_read row.encoding true found.last is.octets) in
     let tokens = data_tokens found text in
     text_of (scan_data row) _ found tokens

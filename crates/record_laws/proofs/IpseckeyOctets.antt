@@ -11,7 +11,7 @@ use Rattle.wire_base.specs.Input.{Input}
 use Rattle.wire_base.specs.RecordReading.{DataRead}
 use Rattle.wire_records.specs.Reading.{next_octets}
 use Rattle.record_spec.specs.Ipseckeys.{Gateway, NoGateway, Ipv4Gateway, Ipv6Gateway, NameGateway, gateway_type, gateway_wire, Ipseckey, lacks_key, ipseckey_wire, IsGateway}
-use Rattle.record_spec.specs.IpseckeyWire.{gateway_of, name_gateway, gateway_read, key_read}
+use Rattle.record_spec.specs.IpseckeyWire.{as_gateway, name_gateway, gateway_read, key_read}
 use Rattle.record_laws.specs.RecordLaws.{IpseckeyReadBack}
 use Rattle.record_laws.proofs.Scans.{assoc}
 use Rattle.record_laws.proofs.Octets.{drop-drop}
@@ -50,13 +50,13 @@ module _ (message behind : List ℕ) (end pos : ℕ) where
   gateway_again (Ipv4Gateway octets) is within left =
       let long : length octets ≡ 4 = is.0 in
       let place : pos + 4 ≡ pos + length octets = omega arith in
-      ap (λ (read : Result (DataRead (List ℕ)) Fault). read >>= gateway_of Ipv4Gateway)
+      ap (λ (read : Result (DataRead (List ℕ)) Fault). read >>= as_gateway Ipv4Gateway)
       (unrefused (nat_lt end (pos + 4)) Short (Ok (record { value = next_octets 4 there; next = pos + 4 })) (not_below end (pos + 4) (omega arith)))
       ∙ ap₂ (λ (found : List ℕ) (n : ℕ). Ok (record { value = Ipv4Gateway found; next = n })) (range_front message octets behind pos (pos + 4) left (sym place)) place
   gateway_again (Ipv6Gateway octets) is within left =
       let long : length octets ≡ 16 = is.0 in
       let place : pos + 16 ≡ pos + length octets = omega arith in
-      ap (λ (read : Result (DataRead (List ℕ)) Fault). read >>= gateway_of Ipv6Gateway)
+      ap (λ (read : Result (DataRead (List ℕ)) Fault). read >>= as_gateway Ipv6Gateway)
       (unrefused (nat_lt end (pos + 16)) Short (Ok (record { value = next_octets 16 there; next = pos + 16 })) (not_below end (pos + 16) (omega arith)))
       ∙ ap₂ (λ (found : List ℕ) (n : ℕ). Ok (record { value = Ipv6Gateway found; next = n })) (range_front message octets behind pos (pos + 16) left (sym place)) place
   gateway_again (NameGateway labels) is within left =

@@ -10,11 +10,11 @@ use Rattle.name_spec.proofs.NameLaws.{steps_left, is_pointed-label, is_pointed-p
 use Rattle.name_spec.proofs.OwnedNameLaws.{name_here, AreLabels-read, name_wire-read}
 use Rattle.name_spec.specs.AddressLaws.{AreOctets}
 use Rattle.text_spec.proofs.EncodingTexts.{octet_at, AreOctets-take, AreOctets-drop}
-use Rattle.wire_base.specs.Input.{Input, left}
+use Rattle.wire_base.specs.Input.{Input, octets_left}
 use Rattle.wire_base.specs.RecordReading.{DataRead}
 use Rattle.wire_records.specs.Reading.{next_octets, address_read}
 use Rattle.record_spec.specs.Ipseckeys.{Gateway, NoGateway, Ipv4Gateway, Ipv6Gateway, NameGateway, gateway_type, gateway_wire, Ipseckey, lacks_key, IsAddress, IsGateway}
-use Rattle.record_spec.specs.IpseckeyWire.{gateway_of, name_gateway, gateway_read, key_read}
+use Rattle.record_spec.specs.IpseckeyWire.{as_gateway, name_gateway, gateway_read, key_read}
 use Rattle.record_spec.proofs.OctetLists.{AreOctets-split, labels_octets}
 use Rattle.record_laws.specs.RecordLaws.{IsReadWhole, IpseckeyComposedBack}
 use Rattle.record_laws.proofs.Octets.{above}
@@ -81,10 +81,10 @@ module _ (message : List ℕ) (end pos : ℕ) (in_message : end ≤ length messa
     AreOctets-take (pos + len - pos) (drop pos message) (AreOctets-drop pos message are),
   )
 
-  address_there : (len : ℕ) (gateway : List ℕ → Gateway) (found : DataRead Gateway) → (address_read len there >>= gateway_of gateway) ≡ Ok found
+  address_there : (len : ℕ) (gateway : List ℕ → Gateway) (found : DataRead Gateway) → (address_read len there >>= as_gateway gateway) ≡ Ok found
       → (pos + len ≤ end) × (record { value = gateway (slice_range message pos (pos + len)); next = pos + len } ≡ found)
   address_there len gateway found read =
-      let step = before_ok (address_read len there) (gateway_of gateway) found read in
+      let step = before_ok (address_read len there) (as_gateway gateway) found read in
       let tested = not_refused (nat_lt end (pos + len)) Short (Ok (record { value = next_octets len there; next = pos + len })) step.0 step.1 in
       let address = same_ok (record { value = next_octets len there; next = pos + len }) step.0 tested.1 in (
         above end (pos + len) tested.0,
@@ -113,13 +113,13 @@ module _ (message : List ℕ) (end pos : ℕ) (in_message : end ≤ length messa
     nothing_there : IsThere 0 (record { value = NoGateway; next = pos })
     nothing_there = record { type_is = refl; is = tt; octets = refl; within = starts }
 
-    four_there : (found : DataRead Gateway) → (address_read 4 there >>= gateway_of Ipv4Gateway) ≡ Ok found → IsThere 1 found
+    four_there : (found : DataRead Gateway) → (address_read 4 there >>= as_gateway Ipv4Gateway) ≡ Ok found → IsThere 1 found
     four_there found read =
         let address = address_there 4 Ipv4Gateway found read in
         subst (IsThere 1) address.1
         (record { type_is = refl; is = address_in 4 address.0; octets = drop_split message pos (pos + 4) (omega arith); within = address.0 })
 
-    sixteen_there : (found : DataRead Gateway) → (address_read 16 there >>= gateway_of Ipv6Gateway) ≡ Ok found → IsThere 2 found
+    sixteen_there : (found : DataRead Gateway) → (address_read 16 there >>= as_gateway Ipv6Gateway) ≡ Ok found → IsThere 2 found
     sixteen_there found read =
         let address = address_there 16 Ipv6Gateway found read in
         subst (IsThere 2) address.1
@@ -193,7 +193,7 @@ ipseckey_reads input found are in_message read =
     let count : end - pos ≡ suc (suc (suc (end - (pos + 3)))) = omega arith in
     let len : length (wire ++ key) ≡ end - (pos + 3) =
     ap length rest ∙ omega (arith, length-take (end - (pos + 3)) (drop (pos + 3) message), length-drop (pos + 3) message) in
-    let octets : p ∷ gateway_type gateway.value ∷ a ∷ wire ++ key ≡ left input =
+    let octets : p ∷ gateway_type gateway.value ∷ a ∷ wire ++ key ≡ octets_left input =
     ap₂ (λ (type : ℕ) (others : List ℕ). p ∷ type ∷ a ∷ others) stands.type_is rest
     ∙ sym (ap₂ (λ (n : ℕ) (others : List ℕ). take n others) count (three_first message pos (omega arith))) in
     subst (IsReadWhole input) (same_ok whole found few.1)

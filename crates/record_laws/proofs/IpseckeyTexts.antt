@@ -21,7 +21,7 @@ use Rattle.text_spec.specs.Rows.{number_below, by_name, rest_base64}
 use Rattle.record_spec.specs.declared.Encoding.TheVariants.{Base64}
 use Rattle.record_spec.specs.Texts.{numbers_printed, last_printed}
 use Rattle.record_spec.specs.Ipseckeys.{Gateway, NoGateway, Ipv4Gateway, Ipv6Gateway, NameGateway, gateway_type, Ipseckey, lacks_key, ipseckey_len, IsGateway, IsIpseckey}
-use Rattle.record_spec.specs.IpseckeyTexts.{no_gateway_of, scan_gateway, complete, scan_ipseckey, gateway_text, ipseckey_printed, type_comment, algorithm_comment, ipseckey_document}
+use Rattle.record_spec.specs.IpseckeyTexts.{no_gateway_of, scan_gateway, complete_ipseckey, scan_ipseckey, gateway_text, ipseckey_printed, type_comment, algorithm_comment, ipseckey_document}
 use Rattle.record_spec.specs.DocumentLaws.{document-ipseckey}
 use Rattle.record_laws.specs.RecordLaws.{IpseckeyTextReadBack, IpseckeyLayoutReadBack}
 use Rattle.record_laws.proofs.Scans.{assoc, one_taken, rest_taken, within}
@@ -108,7 +108,7 @@ module _ (tokens : List (List Symbol)) where
   abbrev behind_gateway : ℕ → ℕ → Gateway → ℕ → Scanned Ipseckey
   behind_gateway precedence algorithm gateway after =
       scan_then (rest_base64 tokens after) (λ key end.
-      complete (record { precedence = precedence; algorithm = algorithm; gateway = gateway; key = key }) tokens end)
+      complete_ipseckey (record { precedence = precedence; algorithm = algorithm; gateway = gateway; key = key }) tokens end)
 
   abbrev behind_algorithm : ℕ → ℕ → ℕ → ℕ → Scanned Ipseckey
   behind_algorithm precedence type algorithm after = scan_then (scan_gateway type tokens after) (behind_gateway precedence algorithm)
@@ -120,7 +120,7 @@ module _ (tokens : List (List Symbol)) where
   behind_precedence precedence after = scan_then (number_below 256 tokens after) (behind_type precedence)
 
 completed : (found : Ipseckey) (tokens : List (List Symbol)) (end : ℕ) → IsIpseckey found → lacks_key found.algorithm found.key ≡ false
-    → complete found tokens end ≡ done found end
+    → complete_ipseckey found tokens end ≡ done found end
 completed found tokens end is has =
     ap (λ (lacks : Bool). cond lacks (refused MissingKey end) (cond (nat_lt 65535 (ipseckey_len found)) (refused LongRecord end) (done found end))) has
     ∙ within (ipseckey_len found) end LongRecord found is.fits
@@ -145,7 +145,7 @@ data_scanned found token gateway is has =
     ∙ ap (λ (s : Scanned ℕ). scan_then s (behind_type tokens p)) (number_scanned 256 t first (number_token a ∷ token ∷ rest) (omega arith) (omega arith))
     ∙ ap (λ (s : Scanned ℕ). scan_then s (behind_algorithm tokens p t)) (number_scanned 256 a second (token ∷ rest) small_too (omega arith))
     ∙ ap (λ (s : Scanned Gateway). scan_then s (behind_gateway tokens p a)) (gateway.scanned third rest)
-    ∙ ap (λ (s : Scanned (List ℕ)). scan_then s (λ key end. complete (record { precedence = p; algorithm = a; gateway = found.gateway; key = key }) tokens end))
+    ∙ ap (λ (s : Scanned (List ℕ)). scan_then s (λ key end. complete_ipseckey (record { precedence = p; algorithm = a; gateway = found.gateway; key = key }) tokens end))
     (rest_taken base64_of BadBase64 fourth rest found.key (ap base64_of (octets-text_tokens (base64_text found.key)) ∙ base64_again found.key is.key))
     ∙ completed found tokens (length tokens) is has
 

@@ -8,10 +8,10 @@ use Rattle.std.specs.Int.{bytes_high_first}
 use Rattle.name_spec.specs.Octets.{Short, Form}
 use Rattle.name_spec.specs.AddressLaws.{AreOctets}
 use Rattle.text_spec.proofs.EncodingTexts.{AreOctets-take, AreOctets-drop}
-use Rattle.record_spec.specs.Rows.{Field, Row, Data, fixed_len, data_len, AreNumbers, IsData}
+use Rattle.record_spec.specs.Rows.{Field, Row, Data, fixed_len, data_len, AreNumbers, IsAssociationData}
 use Rattle.record_spec.specs.Wire.{numbers_wire, data_wire, number_of_octets, numbers_in}
 use Rattle.record_spec.proofs.OctetLists.{length-octets}
-use Rattle.record_laws.specs.RecordLaws.{DataReadBack, ReadComposedBack}
+use Rattle.record_laws.specs.RecordLaws.{FieldsReadBack, FieldsComposedBack}
 use Rattle.record_laws.proofs.Numbers.{number_again, number_below, octets_again}
 
 take_front : (k : ℕ) (front behind : List ℕ) → length front ≡ k → take k (front ++ behind) ≡ front
@@ -56,7 +56,7 @@ pub length-data_wire : (row : Row) (found : Data) → AreNumbers row.fields foun
 length-data_wire row found are =
     length-append (numbers_wire row.fields found.numbers) found.last ∙ ap (λ (n : ℕ). n + length found.last) (length-numbers_wire row.fields found.numbers are)
 
-pub data_again : DataReadBack
+pub data_again : FieldsReadBack
 data_again row found is least =
     let octets = data_wire row found in
     let fixed = fixed_len row.fields in
@@ -133,7 +133,7 @@ wire-read (field ∷ fields) octets are within =
     (ap (λ (d : List ℕ). others ++ d) (sym (drop-drop w (fixed_len fields) octets)) ∙ lower)
     ∙ take-append-drop w octets
 
-pub read_again : ReadComposedBack
+pub read_again : FieldsComposedBack
 read_again row octets found are read =
     let fixed = fixed_len row.fields in
     let seen : Data = record { numbers = numbers_in row.fields octets; last = drop fixed octets } in
@@ -142,7 +142,7 @@ read_again row octets found are read =
     let few = above 65535 (length octets) answer.1 in
     let within : fixed ≤ length octets = omega arith in
     let behind = length-behind fixed octets within in
-    subst (λ (d : Data). IsData row d × (row.least ≤ length d.last) × (data_wire row d ≡ octets)) answer.2 (
+    subst (λ (d : Data). IsAssociationData row d × (row.least ≤ length d.last) × (data_wire row d ≡ octets)) answer.2 (
       record {
         numbers = AreNumbers-read row.fields octets are within;
         octets = AreOctets-drop fixed octets are;

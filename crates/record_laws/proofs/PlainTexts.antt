@@ -24,7 +24,7 @@ use Rattle.text_spec.proofs.PlainTexts.{ArePlain-base16, ipv4_token, ipv6_token}
 use Rattle.text_spec.proofs.TokenTexts.{GapText, has_no_tokens, blank_on, token_on, has_token}
 use Rattle.text_spec.specs.Rows.{unknown_data, rest_base16}
 use Rattle.record_spec.specs.Ipseckeys.{IsAddress}
-use Rattle.record_laws.specs.RecordLaws.{IsTextOf}
+use Rattle.record_laws.specs.RecordLaws.{IsScannedAs}
 use Rattle.record_laws.proofs.Scans.{one_taken, rest_taken}
 use Rattle.record_laws.proofs.Texts.{number_token, number_text, number_scanned, text_tokens, octets-text_tokens, bare_text, text_of}
 use Rattle.record_spec.specs.RecordData.{RecordData, A, Aaaa, Unknown}
@@ -64,7 +64,7 @@ address_scanned type read rtype address token fields none some =
     ∙ ap (λ (s : Scanned (List ℕ)). scan_then (scan_then s (λ found after. done (type found) after)) ending)
     (one_taken (by_octets read BadAddress) [] [] token address (ap (λ (r : Option (List ℕ)). ok_or r BadAddress) some))
 
-pub a_text_again : (address : List ℕ) → IsAddress 4 address → IsTextOf (union_scan 1) (ipv4_text address) (A address)
+pub a_text_again : (address : List ℕ) → IsAddress 4 address → IsScannedAs (union_scan 1) (ipv4_text address) (A address)
 unfolding read_ipv4 read_octet read_number
 a_text_again address is =
     let own = ipv4_token address is.0 is.1 in
@@ -72,7 +72,7 @@ a_text_again address is =
     text_of (union_scan 1) (ipv4_text address) (A address) (own.0 ∷ []) (has_token (ipv4_text address) own.0 own.1)
     (address_scanned A ipv4_of 1 address own.0 refl refl read)
 
-pub aaaa_text_again : (address : List ℕ) → IsAddress 16 address → IsTextOf (union_scan 28) (ipv6_text address) (Aaaa address)
+pub aaaa_text_again : (address : List ℕ) → IsAddress 16 address → IsScannedAs (union_scan 28) (ipv6_text address) (Aaaa address)
 unfolding read_ipv6 read_segments read_ipv4 read_octet read_number read_segment
 aaaa_text_again address is =
     let own = ipv6_token address is.0 is.1 in
@@ -137,7 +137,7 @@ octets_scanned rtype octets are fits =
     ∙ ap (λ (b : Bool). cond b (refused TrailingTokens (length tokens)) (done found (length tokens))) (not_below (length tokens))
 
 pub unknown_text_again : (found : UnknownData) → AreOctets found.octets → length found.octets ≤ 65535
-    → IsTextOf (union_scan found.rtype) (unknown_text found.octets) (Unknown found)
+    → IsScannedAs (union_scan found.rtype) (unknown_text found.octets) (Unknown found)
 unknown_text_again found are fits =
     text_of (union_scan found.rtype) (unknown_text found.octets) (Unknown found) (octets_tokens found.octets) (text_has found.octets are fits)
     (octets_scanned found.rtype found.octets are fits)

@@ -17,7 +17,7 @@ use Rattle.text_spec.proofs.EncodingTexts.{AreOctets-base16_of, AreOctets-base64
 use Rattle.text_spec.specs.Rows.{number_below}
 use Rattle.record_spec.specs.declared.Encoding.{Encoding}
 use Rattle.record_spec.specs.declared.Encoding.TheVariants.{Base16, Base64}
-use Rattle.record_spec.specs.Rows.{Field, Row, Data, AreNumbers, IsData, data_len}
+use Rattle.record_spec.specs.Rows.{Field, Row, Data, AreNumbers, IsAssociationData, data_len}
 use Rattle.record_spec.specs.Texts.{numbers_then, rest_encoded, within_length, scan_last}
 use Rattle.record_spec.proofs.OctetLists.{AreOctets-split}
 use Rattle.record_laws.specs.RecordLaws.{ScannedIsData}
@@ -138,7 +138,7 @@ encoded_done Base64 tokens place octets end are is =
 -- ---- data
 
 last_done : (row : Row) (numbers : List ℕ) (tokens : List (List Symbol)) (place : ℕ) (found : Data) (end : ℕ) → AreOctets (flat_map octets_of tokens)
-    → AreNumbers row.fields numbers → scan_last row numbers tokens place ≡ done found end → IsData row found × (end ≡ length tokens)
+    → AreNumbers row.fields numbers → scan_last row numbers tokens place ≡ done found end → IsAssociationData row found × (end ≡ length tokens)
 last_done row numbers tokens place found end are fit is =
     let rest = rest_encoded row.encoding tokens place in
     let made : List ℕ → Data = λ octets. record { numbers = numbers; last = octets } in
@@ -146,7 +146,7 @@ last_done row numbers tokens place found end are fit is =
     let first = first_done rest onward found end is in
     let octets = encoded_done row.encoding tokens place first.0 rest.place are first.1 in
     let tested = test_done (nat_lt 65535 (data_len row (made first.0))) LongRecord rest.place end (made first.0) found first.2 in (
-      subst (IsData row) tested.1 (record { numbers = fit; octets = octets.0; fits = above 65535 (data_len row (made first.0)) tested.0 }),
+      subst (IsAssociationData row) tested.1 (record { numbers = fit; octets = octets.0; fits = above 65535 (data_len row (made first.0)) tested.0 }),
       sym tested.2 ∙ octets.1,
     )
 

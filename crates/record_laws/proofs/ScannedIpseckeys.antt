@@ -11,7 +11,7 @@ use Rattle.text_spec.specs.NameTexts.{name_of}
 use Rattle.text_spec.specs.Rows.{number_below, by_name, name, ipv4_address, ipv6_address, rest_base64}
 use Rattle.record_spec.specs.declared.Encoding.TheVariants.{Base64}
 use Rattle.record_spec.specs.Ipseckeys.{Gateway, NoGateway, Ipv4Gateway, Ipv6Gateway, NameGateway, Ipseckey, lacks_key, ipseckey_len, IsGateway, IsIpseckey}
-use Rattle.record_spec.specs.IpseckeyTexts.{no_gateway_of, scan_gateway, complete}
+use Rattle.record_spec.specs.IpseckeyTexts.{no_gateway_of, scan_gateway, complete_ipseckey}
 use Rattle.record_spec.proofs.OctetLists.{AreOctets-split}
 use Rattle.record_laws.specs.RecordLaws.{ScannedIsIpseckey}
 use Rattle.record_laws.proofs.Octets.{above}
@@ -73,7 +73,7 @@ module _ (tokens : List (List Symbol)) (place : ℕ) (are : AreOctets (flat_map 
 
 -- ---- data
 
-complete_done : (found : Ipseckey) (tokens : List (List Symbol)) (place : ℕ) (made : Ipseckey) (end : ℕ) → complete made tokens place ≡ done found end
+complete_done : (found : Ipseckey) (tokens : List (List Symbol)) (place : ℕ) (made : Ipseckey) (end : ℕ) → complete_ipseckey made tokens place ≡ done found end
     → (lacks_key made.algorithm made.key ≡ false) × (nat_lt 65535 (ipseckey_len made) ≡ false) × (made ≡ found) × (place ≡ end)
 complete_done found tokens place made end is = tested (lacks_key made.algorithm made.key) refl is
   where
@@ -91,12 +91,12 @@ IsScanned tokens end found = IsIpseckey found × (lacks_key found.algorithm foun
 
 key_done : (tokens : List (List Symbol)) (place end : ℕ) (found : Ipseckey) → AreOctets (flat_map octets_of tokens)
     → (precedence algorithm : ℕ) (gateway : Gateway) → precedence < 256 → algorithm < 256 → IsGateway gateway
-    → scan_then (rest_base64 tokens place) (λ key end. complete (record { precedence = precedence; algorithm = algorithm; gateway = gateway; key = key }) tokens end) ≡ done found end
+    → scan_then (rest_base64 tokens place) (λ key end. complete_ipseckey (record { precedence = precedence; algorithm = algorithm; gateway = gateway; key = key }) tokens end) ≡ done found end
     → IsScanned tokens end found
 key_done tokens place end found are precedence algorithm gateway small small_too is_gateway is =
     let made : List ℕ → Ipseckey = λ key. record { precedence = precedence; algorithm = algorithm; gateway = gateway; key = key } in
     let rest = rest_base64 tokens place in
-    let onward : List ℕ → ℕ → Scanned Ipseckey = λ key end. complete (made key) tokens end in
+    let onward : List ℕ → ℕ → Scanned Ipseckey = λ key end. complete_ipseckey (made key) tokens end in
     let first = first_done rest onward found end is in
     let key = encoded_done Base64 tokens place first.0 rest.place are first.1 in
     let tested = complete_done found tokens rest.place (made first.0) end first.2 in
@@ -107,7 +107,7 @@ key_done tokens place end found are precedence algorithm gateway small small_too
 pub scanned_ipseckey : ScannedIsIpseckey
 scanned_ipseckey tokens place end found are is =
     let behind_gateway : ℕ → ℕ → Gateway → ℕ → Scanned Ipseckey =
-    λ p a g after. scan_then (rest_base64 tokens after) (λ key end. complete (record { precedence = p; algorithm = a; gateway = g; key = key }) tokens end) in
+    λ p a g after. scan_then (rest_base64 tokens after) (λ key end. complete_ipseckey (record { precedence = p; algorithm = a; gateway = g; key = key }) tokens end) in
     let behind_algorithm : ℕ → ℕ → ℕ → ℕ → Scanned Ipseckey = λ p t a after. scan_then (scan_gateway t tokens after) (behind_gateway p a) in
     let behind_type : ℕ → ℕ → ℕ → Scanned Ipseckey = λ p t after. scan_then (number_below 256 tokens after) (behind_algorithm p t) in
     let behind_precedence : ℕ → ℕ → Scanned Ipseckey = λ p after. scan_then (number_below 256 tokens after) (behind_type p) in

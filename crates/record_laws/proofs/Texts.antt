@@ -19,8 +19,8 @@ use Rattle.text_spec.proofs.TokenTexts.{EntryText, GapText, entry_from_gap, has_
 use Rattle.text_spec.specs.Rows.{number_below}
 use Rattle.record_spec.specs.Rows.{Field, AreNumbers}
 use Rattle.record_spec.specs.Texts.{numbers_then, numbers_printed}
-use Rattle.record_spec.specs.Documents.{commented, numbers_items}
-use Rattle.record_laws.specs.RecordLaws.{AreSmall, IsTextOf}
+use Rattle.record_spec.specs.Documents.{number_with_comment, numbers_items}
+use Rattle.record_laws.specs.RecordLaws.{AreSmall, IsScannedAs}
 use Rattle.record_laws.proofs.Scans.{assoc, one_taken}
 
 -- ---- the token of a number
@@ -151,7 +151,7 @@ pub number_front : (n : ℕ) (items : List Item) (tokens : List (List Symbol)) �
 number_front n items tokens small are = token_front (decimal n) (number_token n) items tokens (some_digits n small) (number_text n small) are
 
 commented_front : (n : ℕ) (comment : Option (List ℕ)) (items : List Item) (tokens : List (List Symbol)) → n < 2 ^ 64 → AreTokenTexts items tokens
-    → AreTokenTexts (commented n comment ++ items) (number_token n ∷ tokens)
+    → AreTokenTexts (number_with_comment n comment ++ items) (number_token n ∷ tokens)
 commented_front n None items tokens small are = number_front n items tokens small are
 commented_front n (Some comment) items tokens small are = number_front n (Comment comment ∷ items) tokens small are
 
@@ -162,7 +162,7 @@ numbers_front [] (n ∷ numbers) items tokens fit small are = absurd fit
 numbers_front (field ∷ fields) [] items tokens fit small are = absurd fit
 numbers_front (field ∷ fields) (n ∷ numbers) items tokens fit small are =
     let rest = numbers_items fields numbers ++ items in
-    subst (λ (all : List Item). AreTokenTexts all (number_tokens (n ∷ numbers) ++ tokens)) (sym (assoc (commented n (field.comment n)) (numbers_items fields numbers) items))
+    subst (λ (all : List Item). AreTokenTexts all (number_tokens (n ∷ numbers) ++ tokens)) (sym (assoc (number_with_comment n (field.comment n)) (numbers_items fields numbers) items))
     (commented_front n (field.comment n) rest (number_tokens numbers ++ tokens) small.0 (numbers_front fields numbers items tokens fit.1 small.1 are))
 
 -- the last field, behind which a block ends
@@ -173,7 +173,7 @@ last_front (c ∷ text) plain = (text_is c text plain, tt)
 -- ---- any tokens of a text
 
 pub text_of : {V : Type 0} (scanning : Scanning V) (text : List ℕ) (found : V) (tokens : List (List Symbol)) → HasTokens text tokens
-    → scanning tokens 0 ≡ done found (length tokens) → IsTextOf scanning text found
+    → scanning tokens 0 ≡ done found (length tokens) → IsScannedAs scanning text found
 text_of scanning text found tokens has scanned =
     record {
       has = (tokens, has);

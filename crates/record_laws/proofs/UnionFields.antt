@@ -14,7 +14,7 @@ use Rattle.text_spec.specs.Scanning.{Scanned, Scanning, scan_then, at_token, don
 use Rattle.text_spec.specs.Rows.{number_below, unknown_data}
 use Rattle.record_spec.specs.Rows.{Field}
 use Rattle.record_spec.specs.Texts.{numbers_then}
-use Rattle.record_laws.specs.RecordLaws.{IsTextOf}
+use Rattle.record_laws.specs.RecordLaws.{IsScannedAs}
 use Rattle.record_spec.specs.RecordData.{RecordData}
 use Rattle.record_spec.specs.UnionTexts.{scan_as, octets_under, scan_fields, scan_any, at_end, union_scan}
 
@@ -61,9 +61,9 @@ module _ {V : Type 0} (rtype : ℕ) (type : V → RecordData) (scanning : Scanni
       ∙ ap (λ left. cond left (refused TrailingTokens (length tokens)) (done (type found) (length tokens))) (not_below (length tokens))
 
   -- the text of fields, where its tokens don't begin with the marker
-  pub text_under : (text : List ℕ) (found : V) → IsTextOf scanning text found
+  pub text_under : (text : List ℕ) (found : V) → IsScannedAs scanning text found
       → ((tokens : List (List Symbol)) → HasTokens text tokens → scanning tokens 0 ≡ done found (length tokens) → is_marked tokens 0 ≡ false)
-      → IsTextOf (union_scan rtype) text (type found)
+      → IsScannedAs (union_scan rtype) text (type found)
   text_under text found is unmarked = record {
     has = is.has;
     scanned = λ tokens are. under_number tokens found (unmarked tokens are (is.scanned tokens are)) (is.scanned tokens are);

@@ -12,12 +12,12 @@ use Rattle.text_spec.proofs.PlainTexts.{ArePlain-base64}
 use Rattle.text_spec.specs.Rows.{number_below, name, rest_base64}
 use Rattle.svcb_spec.specs.ParamTexts.{params}
 use Rattle.record_spec.specs.declared.Encoding.TheVariants.{Base64}
-use Rattle.record_spec.specs.Rows.{Row, Data, IsData, AreNumbers, sshfp, tlsa, cds, cdnskey, openpgpkey, zonemd}
-use Rattle.record_spec.specs.Texts.{scan_data, scan_last, numbers_printed, last_printed, data_printed}
+use Rattle.record_spec.specs.Rows.{Row, Data, IsAssociationData, AreNumbers, sshfp, tlsa, cds, cdnskey, openpgpkey, zonemd}
+use Rattle.record_spec.specs.Texts.{scan_data, scan_last, numbers_printed, last_printed, fields_printed}
 use Rattle.record_spec.specs.Ipseckeys as ipseckeys
 use Rattle.record_spec.specs.Ipseckeys.{IsIpseckey, lacks_key}
-use Rattle.record_spec.specs.IpseckeyTexts.{scan_ipseckey, scan_gateway, complete, ipseckey_printed}
-use Rattle.record_laws.specs.RecordLaws.{IsTextOf, IsRow, TypesAreRows, DataTextReadBack, IpseckeyTextReadBack}
+use Rattle.record_spec.specs.IpseckeyTexts.{scan_ipseckey, scan_gateway, complete_ipseckey, ipseckey_printed}
+use Rattle.record_laws.specs.RecordLaws.{IsScannedAs, IsLawfulRow, TypesAreRows, FieldsTextReadBack, IpseckeyTextReadBack}
 use Rattle.record_laws.proofs.Texts.{text_tokens, bracketed_text}
 use Rattle.svcb_spec.specs.DataTexts.{svcb_data}
 use Rattle.svcb_spec.specs.DataTexts as svcb
@@ -31,12 +31,12 @@ use Rattle.record_laws.proofs.UnionFields.{number_unmarked, numbers_unmarked, te
 
 -- ---- types of one form, the first of whose fields is a number
 
-module _ (texts : DataTextReadBack) (rtype : ℕ) (type : Data → RecordData) (row : Row) (is_row : IsRow row)
+module _ (texts : FieldsTextReadBack) (rtype : ℕ) (type : Data → RecordData) (row : Row) (is_row : IsLawfulRow row)
     (fields : (tokens : List (List Symbol)) → scan_fields rtype tokens 0 ≡ scan_as type (scan_data row) tokens 0)
     (numbered : nat_lt 0 (length row.fields) ≡ true) where
-  fields_text : (found : Data) → IsData row found → IsTextOf (union_scan rtype) (data_printed row found) (type found)
+  fields_text : (found : Data) → IsAssociationData row found → IsScannedAs (union_scan rtype) (fields_printed row found) (type found)
   fields_text found is =
-      text_under rtype type (scan_data row) fields (data_printed row found) found (texts row is_row found is)
+      text_under rtype type (scan_data row) fields (fields_printed row found) found (texts row is_row found is)
       (λ tokens has scans. numbers_unmarked row.fields (scan_last row) tokens found (length tokens) numbered scans)
 
 -- ---- OPENPGPKEY: a key alone
@@ -52,18 +52,18 @@ key_has : (numbers octets : List ℕ) → AreNumbers [] numbers → AreOctets oc
 key_has [] octets none are = bracketed_text (base64_text octets) (ArePlain-base64 octets are)
 key_has (n ∷ numbers) octets none are = absurd none
 
-key_unmarked : (found : Data) → IsData openpgpkey found → (tokens : List (List Symbol)) → HasTokens (data_printed openpgpkey found) tokens
+key_unmarked : (found : Data) → IsAssociationData openpgpkey found → (tokens : List (List Symbol)) → HasTokens (fields_printed openpgpkey found) tokens
     → is_marked tokens 0 ≡ false
 key_unmarked found is tokens has =
     let text = base64_text found.last in
     let own = key_has found.numbers found.last is.numbers is.octets in
-    let same : text_tokens text ≡ tokens = sym (has_tokens (data_printed openpgpkey found) (text_tokens text) own).1 ∙ (has_tokens (data_printed openpgpkey found) tokens has).1 in
+    let same : text_tokens text ≡ tokens = sym (has_tokens (fields_printed openpgpkey found) (text_tokens text) own).1 ∙ (has_tokens (fields_printed openpgpkey found) tokens has).1 in
     subst (λ (ts : List (List Symbol)). is_marked ts 0 ≡ false) same (text_unmarked text)
 
-openpgpkey_text : DataTextReadBack → IsRow openpgpkey → (found : Data) → IsData openpgpkey found
-    → IsTextOf (union_scan 61) (data_printed openpgpkey found) (Openpgpkey found)
+openpgpkey_text : FieldsTextReadBack → IsLawfulRow openpgpkey → (found : Data) → IsAssociationData openpgpkey found
+    → IsScannedAs (union_scan 61) (fields_printed openpgpkey found) (Openpgpkey found)
 openpgpkey_text texts is_row found is =
-    text_under 61 Openpgpkey (scan_data openpgpkey) (λ tokens. refl) (data_printed openpgpkey found) found (texts openpgpkey is_row found is)
+    text_under 61 Openpgpkey (scan_data openpgpkey) (λ tokens. refl) (fields_printed openpgpkey found) found (texts openpgpkey is_row found is)
     (λ tokens has scans. key_unmarked found is tokens has)
 
 -- ---- IPSECKEY
@@ -76,18 +76,18 @@ ipseckey_unmarked tokens found end scans =
     scan_then (number_below 256 tokens after_type) (λ algorithm after_algorithm.
     scan_then (scan_gateway type tokens after_algorithm) (λ gateway after_gateway.
     scan_then (rest_base64 tokens after_gateway) (λ key end.
-    complete (record { precedence = precedence; algorithm = algorithm; gateway = gateway; key = key }) tokens end)))))
+    complete_ipseckey (record { precedence = precedence; algorithm = algorithm; gateway = gateway; key = key }) tokens end)))))
     tokens found end scans
 
 ipseckey_text : IpseckeyTextReadBack → (found : ipseckeys.Ipseckey) → IsIpseckey found → lacks_key found.algorithm found.key ≡ false
-    → IsTextOf (union_scan 45) (ipseckey_printed found) (Ipseckey found)
+    → IsScannedAs (union_scan 45) (ipseckey_printed found) (Ipseckey found)
 ipseckey_text texts found is has_key =
     text_under 45 Ipseckey scan_ipseckey (λ tokens. refl) (ipseckey_printed found) found (texts found is has_key)
     (λ tokens has scans. ipseckey_unmarked tokens found (length tokens) scans)
 
 -- ---- a service and its parameters
 
-service_text : (found : Record) → service.IsData found → IsTextOf svcb_data (svcb.data_printed found) found
+service_text : (found : Record) → service.IsRecordOfOctets found → IsScannedAs svcb_data (svcb.svcb_printed found) found
 service_text found is =
     let text = text_again found is in
     record { has = text.some; scanned = λ tokens are. text.scanned tokens are [] ∙ ap (done found) (zero-add (length tokens)) }
@@ -98,17 +98,17 @@ service_unmarked found tokens scans =
     (λ priority target.
     scan_then (name tokens target) (λ labels parameters.
     scan_then (params tokens parameters) (λ pairs end.
-    svcb.fitting (record { priority = priority; labels = labels; pairs = pairs }) end)))
+    svcb.within_record_limit (record { priority = priority; labels = labels; pairs = pairs }) end)))
     tokens found (length tokens) scans
 
 service_under : (rtype : ℕ) (type : Record → RecordData) → ((tokens : List (List Symbol)) → scan_fields rtype tokens 0 ≡ scan_as type svcb_data tokens 0)
-    → (found : Record) → service.IsData found → IsTextOf (union_scan rtype) (svcb.data_printed found) (type found)
+    → (found : Record) → service.IsRecordOfOctets found → IsScannedAs (union_scan rtype) (svcb.svcb_printed found) (type found)
 service_under rtype type fields found is =
-    text_under rtype type svcb_data fields (svcb.data_printed found) found (service_text found is) (λ tokens has scans. service_unmarked found tokens scans)
+    text_under rtype type svcb_data fields (svcb.svcb_printed found) found (service_text found is) (λ tokens has scans. service_unmarked found tokens scans)
 
 -- ---- any type
 
-pub union_text_again : DataTextReadBack → TypesAreRows → IpseckeyTextReadBack → UnionTextReadBack
+pub union_text_again : FieldsTextReadBack → TypesAreRows → IpseckeyTextReadBack → UnionTextReadBack
 union_text_again texts types ipseckeys (A address) is = a_text_again address is
 union_text_again texts types ipseckeys (Aaaa address) is = aaaa_text_again address is
 union_text_again texts types ipseckeys (Sshfp found) is = fields_text texts 44 Sshfp sshfp types.sshfp_is (λ tokens. refl) refl found is

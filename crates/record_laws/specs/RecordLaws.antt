@@ -7,11 +7,11 @@ use Rattle.text_spec.specs.declared.lexeme.Symbol.{Symbol}
 use Rattle.text_spec.specs.Pieces.{HasTokens}
 use Rattle.text_spec.specs.Scanning.{Scanning, octets_of, done}
 use Rattle.text_spec.specs.Layouts.{laid_out_text}
-use Rattle.wire_base.specs.Input.{Input, left}
+use Rattle.wire_base.specs.Input.{Input, octets_left}
 use Rattle.wire_base.specs.RecordReading.{DataRead}
-use Rattle.record_spec.specs.Rows.{Field, Row, Data, IsData, cds, cdnskey, sshfp, tlsa, zonemd, openpgpkey}
+use Rattle.record_spec.specs.Rows.{Field, Row, Data, IsAssociationData, cds, cdnskey, sshfp, tlsa, zonemd, openpgpkey}
 use Rattle.record_spec.specs.Wire.{data_wire, read_data}
-use Rattle.record_spec.specs.Texts.{scan_data, data_printed}
+use Rattle.record_spec.specs.Texts.{scan_data, fields_printed}
 use Rattle.record_spec.specs.Documents.{data_document}
 use Rattle.record_spec.specs.DocumentLaws.{HaveDocuments}
 use Rattle.record_spec.specs.Ipseckeys.{Ipseckey, IsIpseckey, lacks_key, ipseckey_wire}
@@ -21,14 +21,14 @@ use Rattle.record_spec.specs.IpseckeyTexts.{scan_ipseckey, ipseckey_printed, ips
 -- ---- octets
 
 -- data that is composed is read, where its last field is long enough
-abbrev pub DataReadBack : Type 0
-DataReadBack = (row : Row) (found : Data) → IsData row found → row.least ≤ length found.last
+abbrev pub FieldsReadBack : Type 0
+FieldsReadBack = (row : Row) (found : Data) → IsAssociationData row found → row.least ≤ length found.last
     → read_data row (data_wire row found) ≡ Ok found
 
 -- what is read is data, whose last field is long enough, and it is composed to the octets that were read
-abbrev pub ReadComposedBack : Type 0
-ReadComposedBack = (row : Row) (octets : List ℕ) (found : Data) → AreOctets octets → read_data row octets ≡ Ok found
-    → IsData row found × (row.least ≤ length found.last) × (data_wire row found ≡ octets)
+abbrev pub FieldsComposedBack : Type 0
+FieldsComposedBack = (row : Row) (octets : List ℕ) (found : Data) → AreOctets octets → read_data row octets ≡ Ok found
+    → IsAssociationData row found × (row.least ≤ length found.last) × (data_wire row found ≡ octets)
 
 -- ---- texts
 
@@ -38,38 +38,38 @@ AreSmall [] = Unit {0}
 AreSmall (field ∷ fields) = (256 ^ field.width ≤ 2 ^ 64) × AreSmall fields
 
 -- what the laws of texts ask of a type: small numbers, whose items are documents
-pub record IsRow (row : Row) : Type 0 where
+pub record IsLawfulRow (row : Row) : Type 0 where
   pub small : AreSmall row.fields
   pub documents : HaveDocuments row.fields
 
 -- the six types are such
 pub record TypesAreRows : Type 0 where
-  pub cds_is : IsRow cds
-  pub cdnskey_is : IsRow cdnskey
-  pub sshfp_is : IsRow sshfp
-  pub tlsa_is : IsRow tlsa
-  pub zonemd_is : IsRow zonemd
-  pub openpgpkey_is : IsRow openpgpkey
+  pub cds_is : IsLawfulRow cds
+  pub cdnskey_is : IsLawfulRow cdnskey
+  pub sshfp_is : IsLawfulRow sshfp
+  pub tlsa_is : IsLawfulRow tlsa
+  pub zonemd_is : IsLawfulRow zonemd
+  pub openpgpkey_is : IsLawfulRow openpgpkey
 
 -- a text has tokens, and those that it has are scanned as this, all of them taken
-pub record IsTextOf {V : Type 0} (scanning : Scanning V) (text : List ℕ) (found : V) : Type 0 where
+pub record IsScannedAs {V : Type 0} (scanning : Scanning V) (text : List ℕ) (found : V) : Type 0 where
   pub has : (tokens : List (List Symbol)) × HasTokens text tokens
   pub scanned : (tokens : List (List Symbol)) → HasTokens text tokens → scanning tokens 0 ≡ done found (length tokens)
 
 -- what is scanned is data, and all tokens are taken
 abbrev pub ScannedIsData : Type 0
 ScannedIsData = (row : Row) (tokens : List (List Symbol)) (place end : ℕ) (found : Data) → AreOctets (flat_map octets_of tokens)
-    → scan_data row tokens place ≡ done found end → IsData row found × (end ≡ length tokens)
+    → scan_data row tokens place ≡ done found end → IsAssociationData row found × (end ≡ length tokens)
 
 -- data that is printed is scanned
-abbrev pub DataTextReadBack : Type 0
-DataTextReadBack = (row : Row) → IsRow row → (found : Data) → IsData row found
-    → IsTextOf (scan_data row) (data_printed row found) found
+abbrev pub FieldsTextReadBack : Type 0
+FieldsTextReadBack = (row : Row) → IsLawfulRow row → (found : Data) → IsAssociationData row found
+    → IsScannedAs (scan_data row) (fields_printed row found) found
 
 -- and so is data that is laid out, in each layout
-abbrev pub DataLayoutReadBack : Type 0
-DataLayoutReadBack = (row : Row) → IsRow row → (found : Data) → IsData row found → (kind : DisplayKind)
-    → IsTextOf (scan_data row) (laid_out_text kind (data_document row found)) found
+abbrev pub FieldsLayoutReadBack : Type 0
+FieldsLayoutReadBack = (row : Row) → IsLawfulRow row → (found : Data) → IsAssociationData row found → (kind : DisplayKind)
+    → IsScannedAs (scan_data row) (laid_out_text kind (data_document row found)) found
 
 -- ---- IPSECKEY
 
@@ -87,7 +87,7 @@ IpseckeyReadBack = (found : Ipseckey) (front behind : List ℕ) → IsIpseckey f
 pub record IsReadWhole (input : Input) (found : DataRead Ipseckey) : Type 0 where
   pub is_data : IsIpseckey found.value
   pub has_key : lacks_key found.value.algorithm found.value.key ≡ false
-  pub octets : ipseckey_wire found.value ≡ left input
+  pub octets : ipseckey_wire found.value ≡ octets_left input
   pub next : found.next ≡ input.end
 
 abbrev pub IpseckeyComposedBack : Type 0
@@ -103,9 +103,9 @@ ScannedIsIpseckey = (tokens : List (List Symbol)) (place end : ℕ) (found : Ips
 -- data that is printed is scanned, where no key is missing
 abbrev pub IpseckeyTextReadBack : Type 0
 IpseckeyTextReadBack = (found : Ipseckey) → IsIpseckey found → lacks_key found.algorithm found.key ≡ false
-    → IsTextOf scan_ipseckey (ipseckey_printed found) found
+    → IsScannedAs scan_ipseckey (ipseckey_printed found) found
 
 -- and so is data that is laid out, in each layout
 abbrev pub IpseckeyLayoutReadBack : Type 0
 IpseckeyLayoutReadBack = (found : Ipseckey) → IsIpseckey found → lacks_key found.algorithm found.key ≡ false → (kind : DisplayKind)
-    → IsTextOf scan_ipseckey (laid_out_text kind (ipseckey_document found)) found
+    → IsScannedAs scan_ipseckey (laid_out_text kind (ipseckey_document found)) found

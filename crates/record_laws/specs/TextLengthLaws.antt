@@ -1,20 +1,20 @@
 -- Laws of how long the texts of these records are, which the functions of `src/laws.rt` state.
 use Rattle.std.specs.Prelude.{ℕ, ◌+◌, ◌*◌, ◌<◌, ◌≤◌, List, [], ◌∷◌, ◌++◌, length}
 use Rattle.wire_records.specs.Texts.{unknown_text}
-use Rattle.record_spec.specs.Rows.{Row, Data, IsData, cds, cdnskey, sshfp, tlsa, zonemd, openpgpkey}
-use Rattle.record_spec.specs.Texts.{data_printed}
+use Rattle.record_spec.specs.Rows.{Row, Data, IsAssociationData, cds, cdnskey, sshfp, tlsa, zonemd, openpgpkey}
+use Rattle.record_spec.specs.Texts.{fields_printed}
 use Rattle.record_spec.specs.Ipseckeys.{Ipseckey, IsIpseckey, ipseckey_len}
 use Rattle.record_spec.specs.IpseckeyTexts.{ipseckey_printed}
 use Rattle.record_laws.specs.RecordLaws.{AreSmall}
 
 -- the text has at most 21 octets for each number, two for each octet of the last field, and six more
 abbrev pub FieldsTextByOctets : Type 0
-FieldsTextByOctets = (row : Row) → AreSmall row.fields → (found : Data) → IsData row found
-    → length (data_printed row found) ≤ 21 * length row.fields + 2 * length found.last + 6
+FieldsTextByOctets = (row : Row) → AreSmall row.fields → (found : Data) → IsAssociationData row found
+    → length (fields_printed row found) ≤ 21 * length row.fields + 2 * length found.last + 6
 
 -- the line of the text of data of a type is shorter than 16,777,216 octets
 abbrev pub LineFits : Row → Type 0
-LineFits row = (found : Data) → IsData row found → length (data_printed row found ++ 10 ∷ []) < 16777216
+LineFits row = (found : Data) → IsAssociationData row found → length (fields_printed row found ++ 10 ∷ []) < 16777216
 
 -- so it is for the six types
 pub record TypesLinesFit : Type 0 where

@@ -1,19 +1,19 @@
 //! Laws of the data of these records, each proved for all arguments. The functions do nothing when they run.
 
-ghost use Rattle.record_laws.specs.RecordLaws.{DataReadBack, ReadComposedBack, TypesAreRows};
-ghost use Rattle.record_laws.specs.RecordLaws.{ScannedIsData, DataTextReadBack, DataLayoutReadBack};
+ghost use Rattle.record_laws.specs.RecordLaws.{FieldsReadBack, FieldsComposedBack, TypesAreRows};
+ghost use Rattle.record_laws.specs.RecordLaws.{ScannedIsData, FieldsTextReadBack, FieldsLayoutReadBack};
 ghost use Rattle.record_laws.specs.RecordLaws.{IpseckeyReadBack, IpseckeyComposedBack};
 ghost use Rattle.record_laws.specs.RecordLaws.{ScannedIsIpseckey};
 ghost use Rattle.record_laws.specs.RecordLaws.{IpseckeyTextReadBack, IpseckeyLayoutReadBack};
 
 /// Data that is composed is read, where its last field is long enough.
-pub fn data_read_back()
-    ensures { DataReadBack }
+pub fn fields_read_back()
+    ensures { FieldsReadBack }
 {}
 
 /// What is read is data, whose last field is long enough, and it is composed to the octets that were read.
-pub fn read_composed_back()
-    ensures { ReadComposedBack }
+pub fn fields_composed_back()
+    ensures { FieldsComposedBack }
 {}
 
 /// The types of CDS, CDNSKEY, SSHFP, TLSA, ZONEMD and OPENPGPKEY records are such as the laws of texts speak of.
@@ -27,13 +27,13 @@ pub fn scanned_is_data()
 {}
 
 /// Data that is printed is scanned as that data.
-pub fn data_text_read_back()
-    ensures { DataTextReadBack }
+pub fn fields_text_read_back()
+    ensures { FieldsTextReadBack }
 {}
 
 /// Data that is laid out, in each layout, is scanned as that data.
-pub fn data_layout_read_back()
-    ensures { DataLayoutReadBack }
+pub fn fields_layout_read_back()
+    ensures { FieldsLayoutReadBack }
 {}
 
 /// The data of an IPSECKEY record that is composed is read, where no key is missing.

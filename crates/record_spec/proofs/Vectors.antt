@@ -16,7 +16,7 @@ use Rattle.text_spec.specs.Tokens.{tokens_in}
 use Rattle.text_spec.specs.Scanning.{done, refused}
 use Rattle.record_spec.specs.Rows.{Data, cds, cdnskey, sshfp, tlsa, zonemd, openpgpkey}
 use Rattle.record_spec.specs.Wire.{data_wire, read_data}
-use Rattle.record_spec.specs.Texts.{scan_data, data_printed}
+use Rattle.record_spec.specs.Texts.{scan_data, fields_printed}
 use Rattle.record_spec.specs.Documents.{data_document}
 use Rattle.record_spec.specs.Ipseckeys.{NoGateway, Ipv4Gateway, NameGateway, Ipseckey, ipseckey_wire}
 use Rattle.record_spec.specs.IpseckeyWire.{ipseckey_read}
@@ -54,19 +54,19 @@ cds_scanned : scan_data cds (tokens_in (codes "10 5 2 6b65 79")) 0 ≡ done key_
 unfolding key_of_cds step lexemes_at hex.decode_pairs
 cds_scanned = refl
 
-cds_printed : data_printed cds key_of_cds ≡ codes "10 5 2 6b6579"
+cds_printed : fields_printed cds key_of_cds ≡ codes "10 5 2 6b6579"
 unfolding key_of_cds digits hex.encode_with
 cds_printed = refl
 
-cdnskey_printed : data_printed cdnskey (record { numbers = 10 ∷ 11 ∷ 5 ∷ []; last = codes "key" }) ≡ codes "10 11 5 a2V5"
+cdnskey_printed : fields_printed cdnskey (record { numbers = 10 ∷ 11 ∷ 5 ∷ []; last = codes "key" }) ≡ codes "10 11 5 a2V5"
 unfolding digits encode_symbols
 cdnskey_printed = refl
 
-openpgpkey_printed : data_printed openpgpkey (record { numbers = []; last = codes "key" }) ≡ codes "( a2V5 )"
+openpgpkey_printed : fields_printed openpgpkey (record { numbers = []; last = codes "key" }) ≡ codes "( a2V5 )"
 unfolding digits encode_symbols
 openpgpkey_printed = refl
 
-sshfp_printed : data_printed sshfp (record { numbers = 1 ∷ 1 ∷ []; last = 0x73 ∷ 0xd3 ∷ [] }) ≡ codes "1 1 ( 73D3 )"
+sshfp_printed : fields_printed sshfp (record { numbers = 1 ∷ 1 ∷ []; last = 0x73 ∷ 0xd3 ∷ [] }) ≡ codes "1 1 ( 73D3 )"
 unfolding digits hex.encode_with
 sshfp_printed = refl
 

@@ -37,11 +37,11 @@ abbrev pub gateway_partial_cmp : Gateway → Gateway → Option Ordering
 gateway_partial_cmp g h = if gateway_type g == gateway_type h then Some (gateway_cmp g h) else None
 
 -- what is fed to a hasher: the type, and what the gateway holds; of a name the octets in lower case
-abbrev pub gateway_fed : Gateway → fed.HashWrites
-gateway_fed NoGateway = fed.u8 0
-gateway_fed (Ipv4Gateway octets) = fed.u8 1 ++ fed.slice fed.u8 octets
-gateway_fed (Ipv6Gateway octets) = fed.u8 2 ++ fed.slice fed.u8 octets
-gateway_fed (NameGateway labels) = fed.u8 3 ++ flat_map fed.u8 (lowered_wire labels)
+abbrev pub gateway_hash_input : Gateway → fed.HashWrites
+gateway_hash_input NoGateway = fed.u8 0
+gateway_hash_input (Ipv4Gateway octets) = fed.u8 1 ++ fed.slice fed.u8 octets
+gateway_hash_input (Ipv6Gateway octets) = fed.u8 2 ++ fed.slice fed.u8 octets
+gateway_hash_input (NameGateway labels) = fed.u8 3 ++ flat_map fed.u8 (lowered_wire labels)
 
 -- ---- data
 
@@ -61,8 +61,8 @@ ipseckey_cmp =
     then_cmp (on (λ d. d.gateway) gateway_cmp) (on (λ d. d.key) (slice_cmp nat_cmp)))))
 
 -- what is fed to a hasher
-abbrev pub ipseckey_fed : Ipseckey → fed.HashWrites
-ipseckey_fed d = fed.u8 d.precedence ++ (fed.u8 d.algorithm ++ (gateway_fed d.gateway ++ fed.slice fed.u8 d.key))
+abbrev pub ipseckey_hash_input : Ipseckey → fed.HashWrites
+ipseckey_hash_input d = fed.u8 d.precedence ++ (fed.u8 d.algorithm ++ (gateway_hash_input d.gateway ++ fed.slice fed.u8 d.key))
 
 -- ---- laws
 
@@ -86,23 +86,23 @@ same_gateway_ties (NameGateway l) (Ipv6Gateway o) = refl
 same_gateway_ties (NameGateway l) (NameGateway l') = same_name_ties l l'
 
 -- the same gateway feeds the same
-pub same_gateway_fed : (g h : Gateway) → is_same_gateway g h ≡ true → gateway_fed g ≡ gateway_fed h
-same_gateway_fed NoGateway NoGateway is = refl
-same_gateway_fed NoGateway (Ipv4Gateway o) is = absurd cc
-same_gateway_fed NoGateway (Ipv6Gateway o) is = absurd cc
-same_gateway_fed NoGateway (NameGateway l) is = absurd cc
-same_gateway_fed (Ipv4Gateway o) NoGateway is = absurd cc
-same_gateway_fed (Ipv4Gateway o) (Ipv4Gateway o') is = ap (λ (os : List ℕ). fed.u8 1 ++ fed.slice fed.u8 os) ((bytes_decides o o').0 is)
-same_gateway_fed (Ipv4Gateway o) (Ipv6Gateway o') is = absurd cc
-same_gateway_fed (Ipv4Gateway o) (NameGateway l) is = absurd cc
-same_gateway_fed (Ipv6Gateway o) NoGateway is = absurd cc
-same_gateway_fed (Ipv6Gateway o) (Ipv4Gateway o') is = absurd cc
-same_gateway_fed (Ipv6Gateway o) (Ipv6Gateway o') is = ap (λ (os : List ℕ). fed.u8 2 ++ fed.slice fed.u8 os) ((bytes_decides o o').0 is)
-same_gateway_fed (Ipv6Gateway o) (NameGateway l) is = absurd cc
-same_gateway_fed (NameGateway l) NoGateway is = absurd cc
-same_gateway_fed (NameGateway l) (Ipv4Gateway o) is = absurd cc
-same_gateway_fed (NameGateway l) (Ipv6Gateway o) is = absurd cc
-same_gateway_fed (NameGateway l) (NameGateway l') is = ap (λ (w : fed.HashWrites). fed.u8 3 ++ w) (fed-same (flat_map fed.u8) l l' is)
+pub same_gateway_hash_input : (g h : Gateway) → is_same_gateway g h ≡ true → gateway_hash_input g ≡ gateway_hash_input h
+same_gateway_hash_input NoGateway NoGateway is = refl
+same_gateway_hash_input NoGateway (Ipv4Gateway o) is = absurd cc
+same_gateway_hash_input NoGateway (Ipv6Gateway o) is = absurd cc
+same_gateway_hash_input NoGateway (NameGateway l) is = absurd cc
+same_gateway_hash_input (Ipv4Gateway o) NoGateway is = absurd cc
+same_gateway_hash_input (Ipv4Gateway o) (Ipv4Gateway o') is = ap (λ (os : List ℕ). fed.u8 1 ++ fed.slice fed.u8 os) ((bytes_decides o o').0 is)
+same_gateway_hash_input (Ipv4Gateway o) (Ipv6Gateway o') is = absurd cc
+same_gateway_hash_input (Ipv4Gateway o) (NameGateway l) is = absurd cc
+same_gateway_hash_input (Ipv6Gateway o) NoGateway is = absurd cc
+same_gateway_hash_input (Ipv6Gateway o) (Ipv4Gateway o') is = absurd cc
+same_gateway_hash_input (Ipv6Gateway o) (Ipv6Gateway o') is = ap (λ (os : List ℕ). fed.u8 2 ++ fed.slice fed.u8 os) ((bytes_decides o o').0 is)
+same_gateway_hash_input (Ipv6Gateway o) (NameGateway l) is = absurd cc
+same_gateway_hash_input (NameGateway l) NoGateway is = absurd cc
+same_gateway_hash_input (NameGateway l) (Ipv4Gateway o) is = absurd cc
+same_gateway_hash_input (NameGateway l) (Ipv6Gateway o) is = absurd cc
+same_gateway_hash_input (NameGateway l) (NameGateway l') is = ap (λ (w : fed.HashWrites). fed.u8 3 ++ w) (fed-same (flat_map fed.u8) l l' is)
 
 -- the same gateways are of one type
 pub same_type : (g h : Gateway) → is_same_gateway g h ≡ true → (gateway_type g == gateway_type h) ≡ true
@@ -157,14 +157,14 @@ same_number : (a b : ℕ) → (a == b) ≡ true → a ≡ b
 same_number a b is = grind (arith, nat_tests)
 
 -- the same data feeds the same
-pub same_ipseckey_fed : (x y : Ipseckey) → is_same_ipseckey x y ≡ true → ipseckey_fed x ≡ ipseckey_fed y
-same_ipseckey_fed x y is =
+pub same_ipseckey_hash_input : (x y : Ipseckey) → is_same_ipseckey x y ≡ true → ipseckey_hash_input x ≡ ipseckey_hash_input y
+same_ipseckey_hash_input x y is =
     let first = and_parts (x.precedence == y.precedence) _ is in
     let second = and_parts (x.algorithm == y.algorithm) _ first.1 in
     let third = and_parts (is_same_gateway x.gateway y.gateway) (pointwise ◌==◌ x.key y.key) second.1 in
     cc (
       same_number x.precedence y.precedence first.0,
       same_number x.algorithm y.algorithm second.0,
-      same_gateway_fed x.gateway y.gateway third.0,
+      same_gateway_hash_input x.gateway y.gateway third.0,
       (bytes_decides x.key y.key).0 third.1,
     )

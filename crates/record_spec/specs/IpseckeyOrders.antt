@@ -20,14 +20,14 @@ address (Ipv4Gateway octets) = octets
 address (Ipv6Gateway octets) = octets
 address (NameGateway labels) = []
 
-abbrev labels_of : Gateway → List (List ℕ)
-labels_of NoGateway = []
-labels_of (Ipv4Gateway octets) = []
-labels_of (Ipv6Gateway octets) = []
-labels_of (NameGateway labels) = labels
+abbrev gateway_labels : Gateway → List (List ℕ)
+gateway_labels NoGateway = []
+gateway_labels (Ipv4Gateway octets) = []
+gateway_labels (Ipv6Gateway octets) = []
+gateway_labels (NameGateway labels) = labels
 
 abbrev by_fields : Gateway → Gateway → Ordering
-by_fields = then_cmp (on gateway_type nat_cmp) (then_cmp (on address (slice_cmp nat_cmp)) (on labels_of name_cmp))
+by_fields = then_cmp (on gateway_type nat_cmp) (then_cmp (on address (slice_cmp nat_cmp)) (on gateway_labels name_cmp))
 
 then_equal : (order : Ordering) → order ≡ ordering_then order Equal
 then_equal Less = refl
@@ -57,7 +57,7 @@ name_total = on_total from_last (lists_total (lists_total nat_cmp_total))
 
 fields_total : IsTotalOrder by_fields
 fields_total =
-    then_total (on_total gateway_type nat_cmp_total) (then_total (on_total address (lists_total nat_cmp_total)) (on_total labels_of name_total))
+    then_total (on_total gateway_type nat_cmp_total) (then_total (on_total address (lists_total nat_cmp_total)) (on_total gateway_labels name_total))
 
 -- ---- gateways
 

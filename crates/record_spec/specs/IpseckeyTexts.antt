@@ -22,21 +22,21 @@ abbrev pub no_gateway_of : List ℕ → Option Gateway
 no_gateway_of octets = if bytes_eq octets (codes ".") then Some NoGateway else None
 
 -- what is scanned, as a gateway
-abbrev pub scan_as : {V : Type 0} → (V → Gateway) → Scanning V → Scanning Gateway
-scan_as gateway scanning tokens place = scan_then (scanning tokens place) (λ found after. done (gateway found) after)
+abbrev pub scan_gateway_as : {V : Type 0} → (V → Gateway) → Scanning V → Scanning Gateway
+scan_gateway_as gateway scanning tokens place = scan_then (scanning tokens place) (λ found after. done (gateway found) after)
 
 -- a gateway of a type; of an unknown type no token is taken
 abbrev pub scan_gateway : ℕ → Scanning Gateway
 scan_gateway type tokens place =
     if type == 0 then one (by_octets no_gateway_of WrongGateway) tokens place
-    else if type == 1 then scan_as Ipv4Gateway ipv4_address tokens place
-    else if type == 2 then scan_as Ipv6Gateway ipv6_address tokens place
-    else if type == 3 then scan_as NameGateway name tokens place
+    else if type == 1 then scan_gateway_as Ipv4Gateway ipv4_address tokens place
+    else if type == 2 then scan_gateway_as Ipv6Gateway ipv6_address tokens place
+    else if type == 3 then scan_gateway_as NameGateway name tokens place
     else refused UnknownGateway place
 
 -- data with a key, of at most 65,535 octets, all of whose tokens are taken
-abbrev pub complete : Ipseckey → Scanning Ipseckey
-complete found tokens end =
+abbrev pub complete_ipseckey : Ipseckey → Scanning Ipseckey
+complete_ipseckey found tokens end =
     if lacks_key found.algorithm found.key then refused MissingKey end
     else if nat_lt 65535 (ipseckey_len found) then refused LongRecord end
     else done found end
@@ -49,7 +49,7 @@ scan_ipseckey tokens place =
     scan_then (number_below 256 tokens after_type) (λ algorithm after_algorithm.
     scan_then (scan_gateway type tokens after_algorithm) (λ gateway after_gateway.
     scan_then (rest_base64 tokens after_gateway) (λ key end.
-    complete (record { precedence = precedence; algorithm = algorithm; gateway = gateway; key = key }) tokens end)))))
+    complete_ipseckey (record { precedence = precedence; algorithm = algorithm; gateway = gateway; key = key }) tokens end)))))
 
 -- ---- printed
 

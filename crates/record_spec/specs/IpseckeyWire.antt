@@ -8,8 +8,8 @@ use Rattle.wire_records.specs.Reading.{address_read}
 use Rattle.record_spec.specs.Ipseckeys.{Gateway, NoGateway, Ipv4Gateway, Ipv6Gateway, NameGateway, Ipseckey, lacks_key}
 
 -- what was read, as a gateway, and the same place behind it
-abbrev pub gateway_of : (List ℕ → Gateway) → DataRead (List ℕ) → Result (DataRead Gateway) Fault
-gateway_of gateway found = Ok (record { value = gateway found.value; next = found.next })
+abbrev pub as_gateway : (List ℕ → Gateway) → DataRead (List ℕ) → Result (DataRead Gateway) Fault
+as_gateway gateway found = Ok (record { value = gateway found.value; next = found.next })
 
 -- a name that stands there whole; the fault of a pointer comes behind those of the name
 abbrev pub name_gateway : Input → NameRead → Result (DataRead Gateway) Fault
@@ -21,8 +21,8 @@ name_gateway input name =
 abbrev pub gateway_read : ℕ → Input → Result (DataRead Gateway) Fault
 gateway_read type input =
     if type == 0 then Ok (record { value = NoGateway; next = input.pos })
-    else if type == 1 then address_read 4 input >>= gateway_of Ipv4Gateway
-    else if type == 2 then address_read 16 input >>= gateway_of Ipv6Gateway
+    else if type == 1 then address_read 4 input >>= as_gateway Ipv4Gateway
+    else if type == 2 then address_read 16 input >>= as_gateway Ipv6Gateway
     else if type == 3 then name_at input.message input.end input.pos 0 0 >>= name_gateway input
     else Err Form
 

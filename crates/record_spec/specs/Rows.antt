@@ -46,7 +46,7 @@ AreNumbers (field ∷ fields) [] = ⊥
 AreNumbers (field ∷ fields) (n ∷ numbers) = (n < 256 ^ field.width) × AreNumbers fields numbers
 
 -- what data of a type is: numbers that fit, octets, and at most 65,535 octets in all
-pub record IsData (row : Row) (found : Data) : Type 0 where
+pub record IsAssociationData (row : Row) (found : Data) : Type 0 where
   pub numbers : AreNumbers row.fields found.numbers
   pub octets : AreOctets found.last
   pub fits : data_len row found ≤ 65535
@@ -54,16 +54,16 @@ pub record IsData (row : Row) (found : Data) : Type 0 where
 -- ---- fields
 
 -- a number without a comment
-abbrev pub plain : ℕ → Field
-plain width = record { width = width; comment = λ n. None }
+abbrev pub plain_number : ℕ → Field
+plain_number width = record { width = width; comment = λ n. None }
 
 -- a number with a comment that is the same for each
-abbrev pub called : ℕ → List ℕ → Field
-called width comment = record { width = width; comment = λ n. Some comment }
+abbrev pub number_called : ℕ → List ℕ → Field
+number_called width comment = record { width = width; comment = λ n. Some comment }
 
 -- a number of a registry, which its comment names
-abbrev pub registered : List ℕ → List (ℕ × List ℕ) → Field
-registered name rows = record { width = 1; comment = λ n. Some (number_comment name (mnemonic_of rows n)) }
+abbrev pub registry_number : List ℕ → List (ℕ × List ℕ) → Field
+registry_number name rows = record { width = 1; comment = λ n. Some (number_comment name (mnemonic_of rows n)) }
 
 -- ---- the types
 
@@ -71,7 +71,7 @@ registered name rows = record { width = 1; comment = λ n. Some (number_comment 
 abbrev pub cds : Row
 cds = record {
   rtype = 59;
-  fields = called 2 (codes "key tag") ∷ registered (codes "algorithm") security_algorithms ∷ registered (codes "digest type") digest_algorithms ∷ [];
+  fields = number_called 2 (codes "key tag") ∷ registry_number (codes "algorithm") security_algorithms ∷ registry_number (codes "digest type") digest_algorithms ∷ [];
   least = 0;
   encoding = Base16;
   in_brackets = false;
@@ -81,7 +81,7 @@ cds = record {
 abbrev pub cdnskey : Row
 cdnskey = record {
   rtype = 60;
-  fields = plain 2 ∷ plain 1 ∷ registered (codes "algorithm") security_algorithms ∷ [];
+  fields = plain_number 2 ∷ plain_number 1 ∷ registry_number (codes "algorithm") security_algorithms ∷ [];
   least = 0;
   encoding = Base64;
   in_brackets = false;
@@ -91,7 +91,7 @@ cdnskey = record {
 abbrev pub sshfp : Row
 sshfp = record {
   rtype = 44;
-  fields = plain 1 ∷ plain 1 ∷ [];
+  fields = plain_number 1 ∷ plain_number 1 ∷ [];
   least = 0;
   encoding = Base16;
   in_brackets = true;
@@ -101,7 +101,7 @@ sshfp = record {
 abbrev pub tlsa : Row
 tlsa = record {
   rtype = 52;
-  fields = plain 1 ∷ registered (codes "selector") tlsa_selectors ∷ registered (codes "matching type") tlsa_matching_types ∷ [];
+  fields = plain_number 1 ∷ registry_number (codes "selector") tlsa_selectors ∷ registry_number (codes "matching type") tlsa_matching_types ∷ [];
   least = 0;
   encoding = Base16;
   in_brackets = true;
@@ -111,7 +111,7 @@ tlsa = record {
 abbrev pub zonemd : Row
 zonemd = record {
   rtype = 63;
-  fields = plain 4 ∷ registered (codes "scheme") zonemd_schemes ∷ registered (codes "hash algorithm") zonemd_algorithms ∷ [];
+  fields = plain_number 4 ∷ registry_number (codes "scheme") zonemd_schemes ∷ registry_number (codes "hash algorithm") zonemd_algorithms ∷ [];
   least = 12;
   encoding = Base16;
   in_brackets = true;

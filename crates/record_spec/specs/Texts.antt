@@ -53,5 +53,5 @@ last_printed Base64 false octets = base64_text octets
 last_printed Base64 true octets = codes "( " ++ base64_text octets ++ codes " )"
 
 -- the text of data
-abbrev pub data_printed : Row → Data → List ℕ
-data_printed row found = numbers_printed found.numbers ++ last_printed row.encoding row.in_brackets found.last
+abbrev pub fields_printed : Row → Data → List ℕ
+fields_printed row found = numbers_printed found.numbers ++ last_printed row.encoding row.in_brackets found.last

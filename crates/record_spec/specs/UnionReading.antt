@@ -2,11 +2,11 @@
 use Rattle.std.specs.Prelude.{ℕ, ◌-◌, ◌==◌, Result, Ok, Err, if◌then◌else◌}
 use Rattle.name_spec.specs.Octets.{Fault}
 use Rattle.svcb_spec.specs.Records.{Record, read}
-use Rattle.wire_base.specs.Input.{Input, left}
+use Rattle.wire_base.specs.Input.{Input, octets_left}
 use Rattle.wire_base.specs.RecordReading.{DataRead}
 use Rattle.wire_records.specs.Reading.{address_read, unknown_read}
 use Rattle.record_spec.specs.Rows.{sshfp, tlsa, cds, cdnskey, openpgpkey, zonemd}
-use Rattle.record_spec.specs.Wire.{reaching, data_read}
+use Rattle.record_spec.specs.Wire.{reaching, fields_read}
 use Rattle.record_spec.specs.IpseckeyWire.{ipseckey_read}
 use Rattle.record_spec.specs.RecordData.{RecordData, A, Aaaa, Sshfp, Ipseckey, Tlsa, Cds, Cdnskey, Openpgpkey, Zonemd, Svcb, Https, Unknown}
 
@@ -25,13 +25,13 @@ abbrev pub union_read : ℕ → Input → Result (DataRead RecordData) Fault
 union_read rtype input =
     if rtype == 1 then read_as A (address_read 4 input)
     else if rtype == 28 then read_as Aaaa (address_read 16 input)
-    else if rtype == 44 then read_as Sshfp (data_read sshfp input)
+    else if rtype == 44 then read_as Sshfp (fields_read sshfp input)
     else if rtype == 45 then read_as Ipseckey (ipseckey_read input)
-    else if rtype == 52 then read_as Tlsa (data_read tlsa input)
-    else if rtype == 59 then read_as Cds (data_read cds input)
-    else if rtype == 60 then read_as Cdnskey (data_read cdnskey input)
-    else if rtype == 61 then read_as Openpgpkey (data_read openpgpkey input)
-    else if rtype == 63 then read_as Zonemd (data_read zonemd input)
+    else if rtype == 52 then read_as Tlsa (fields_read tlsa input)
+    else if rtype == 59 then read_as Cds (fields_read cds input)
+    else if rtype == 60 then read_as Cdnskey (fields_read cdnskey input)
+    else if rtype == 61 then read_as Openpgpkey (fields_read openpgpkey input)
+    else if rtype == 63 then read_as Zonemd (fields_read zonemd input)
     else if rtype == 64 then read_as Svcb (svcb_read input)
     else if rtype == 65 then read_as Https (svcb_read input)
-    else read_as Unknown (reaching input.end (unknown_read rtype (left input)))
+    else read_as Unknown (reaching input.end (unknown_read rtype (octets_left input)))

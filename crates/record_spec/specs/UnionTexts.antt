@@ -6,7 +6,7 @@ use Rattle.text_spec.specs.declared.errors.ScanError.TheVariants.{UnknownType, T
 use Rattle.text_spec.specs.Scanning.{Scanning, scan_then, done, refused, is_marked}
 use Rattle.text_spec.specs.Rows.{ipv4_address, ipv6_address, unknown_data}
 use Rattle.record_spec.specs.Rows.{sshfp, tlsa, cds, cdnskey, openpgpkey, zonemd}
-use Rattle.record_spec.specs.Texts.{scan_data, data_printed}
+use Rattle.record_spec.specs.Texts.{scan_data, fields_printed}
 use Rattle.record_spec.specs.IpseckeyTexts.{scan_ipseckey, ipseckey_printed}
 use Rattle.svcb_spec.specs.DataTexts.{svcb_data}
 use Rattle.svcb_spec.specs.DataTexts as svcb
@@ -57,13 +57,13 @@ union_scan rtype tokens place = scan_then (scan_any rtype tokens place) (λ foun
 abbrev pub union_printed : RecordData → List ℕ
 union_printed (A address) = ipv4_text address
 union_printed (Aaaa address) = ipv6_text address
-union_printed (Sshfp found) = data_printed sshfp found
+union_printed (Sshfp found) = fields_printed sshfp found
 union_printed (Ipseckey found) = ipseckey_printed found
-union_printed (Tlsa found) = data_printed tlsa found
-union_printed (Cds found) = data_printed cds found
-union_printed (Cdnskey found) = data_printed cdnskey found
-union_printed (Openpgpkey found) = data_printed openpgpkey found
-union_printed (Zonemd found) = data_printed zonemd found
-union_printed (Svcb found) = svcb.data_printed found
-union_printed (Https found) = svcb.data_printed found
+union_printed (Tlsa found) = fields_printed tlsa found
+union_printed (Cds found) = fields_printed cds found
+union_printed (Cdnskey found) = fields_printed cdnskey found
+union_printed (Openpgpkey found) = fields_printed openpgpkey found
+union_printed (Zonemd found) = fields_printed zonemd found
+union_printed (Svcb found) = svcb.svcb_printed found
+union_printed (Https found) = svcb.svcb_printed found
 union_printed (Unknown found) = unknown_text found.octets

@@ -2,7 +2,7 @@
 use Rattle.std.specs.Prelude.{ℕ, ◌+◌, ◌*◌, ◌^◌, List, [], ◌∷◌, ◌++◌, length, take, drop, Result, Ok, Err, nat_lt, if◌then◌else◌}
 use Rattle.std.specs.Int.{bytes_high_first}
 use Rattle.name_spec.specs.Octets.{Fault, Short, Form}
-use Rattle.wire_base.specs.Input.{Input, left}
+use Rattle.wire_base.specs.Input.{Input, octets_left}
 use Rattle.wire_base.specs.RecordReading.{DataRead}
 use Rattle.record_spec.specs.Rows.{Field, Row, Data, fixed_len}
 
@@ -45,5 +45,5 @@ reaching end (Ok found) = Ok (record { value = found; next = end })
 reaching end (Err fault) = Err fault
 
 -- the data in all octets before the end of the data, and the place behind it
-abbrev pub data_read : Row → Input → Result (DataRead Data) Fault
-data_read row input = reaching input.end (read_data row (left input))
+abbrev pub fields_read : Row → Input → Result (DataRead Data) Fault
+fields_read row input = reaching input.end (read_data row (octets_left input))

@@ -1,6 +1,6 @@
 //! The greatest data.
 
-use digest_rdata::{AssociationFields, FieldsData};
+use digest_rdata::{AssociationFields, AssociationData};
 use digest_rdata::{Cds, CdsFields, Sshfp, SshfpFields, Tlsa, TlsaFields, Zonemd, ZonemdFields};
 use dns_text::{Entry, EntryScanner, ScanError};
 use key_rdata::{Cdnskey, Openpgpkey, OpenpgpkeyFields};
@@ -36,7 +36,7 @@ fn scanned_len<F: AssociationFields>(
     let text = filled(alloc, front, b'A', letters, behind)?;
     let entry = Entry::from_text(text.as_slice())?;
     let mut scanner = EntryScanner::new(entry);
-    Ok(FieldsData::<F>::scan(alloc, &mut scanner)?.rdlen(false))
+    Ok(AssociationData::<F>::scan(alloc, &mut scanner)?.rdlen(false))
 }
 
 #[test]
@@ -69,7 +69,7 @@ fn octets(alloc: Global, count: usize) -> Result<Octets, NoMemory> {
 }
 
 /// The count of octets of data, or none where it would be too long.
-fn made_len<F: AssociationFields>(made: Result<FieldsData<F>, LongRecordData>) -> Option<u16> {
+fn made_len<F: AssociationFields>(made: Result<AssociationData<F>, LongRecordData>) -> Option<u16> {
     made.ok().and_then(|made| made.rdlen(true))
 }
 

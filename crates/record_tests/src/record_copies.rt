@@ -1,6 +1,6 @@
 //! Data of each type of record, its copies, and its octets.
 
-use digest_rdata::{AssociationFields, FieldsData};
+use digest_rdata::{AssociationFields, AssociationData};
 use digest_rdata::{Cds, Sshfp, Tlsa, Zonemd};
 use key_rdata::{Cdnskey, Ipseckey, IpseckeyGateway, Openpgpkey};
 use key_registry::IpseckeyGatewayType;
@@ -40,12 +40,12 @@ const OPENPGPKEY: &[u8] = b"key";
 /// Whether data of such a record is kept, as what is read under its type number is.
 fn are_fields<F: AssociationFields>(
     alloc: Global,
-    data: &FieldsData<F>,
+    data: &AssociationData<F>,
     rtype: u16,
     octets: &[u8],
 ) -> Result<bool, ParseError> {
     let mut parser = Parser::from_ref(octets);
-    match FieldsData::parse_rdata(alloc, Rtype::from_int(rtype), &mut parser)? {
+    match AssociationData::parse_rdata(alloc, Rtype::from_int(rtype), &mut parser)? {
         Some(found) => Ok(*data == found && is_kept(alloc, data, &data.try_clone(alloc)?, octets)?),
         None => Ok(false),
     }

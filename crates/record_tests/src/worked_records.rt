@@ -1,6 +1,6 @@
 //! Record data in octets, as text and laid out.
 
-use digest_rdata::{AssociationFields, FieldsData};
+use digest_rdata::{AssociationFields, AssociationData};
 use digest_rdata::{Cds, CdsFields, SshfpFields, TlsaFields, ZonemdFields};
 use dns_text::{DisplayKind, Entry, EntryScanner, ScanError, Scanner, display_zonefile};
 use key_rdata::{CdnskeyFields, OpenpgpkeyFields};
@@ -63,10 +63,10 @@ const OPENPGPKEY: Row = Row {
 };
 
 /// The data of the one entry of a text.
-fn scanned<F: AssociationFields>(alloc: Global, text: &[u8]) -> Result<FieldsData<F>, ScanError> {
+fn scanned<F: AssociationFields>(alloc: Global, text: &[u8]) -> Result<AssociationData<F>, ScanError> {
     let entry = Entry::from_text(text)?;
     let mut scanner = EntryScanner::new(entry);
-    let found = FieldsData::scan(alloc, &mut scanner)?;
+    let found = AssociationData::scan(alloc, &mut scanner)?;
     scanner.check_end()?;
     Ok(found)
 }
@@ -107,9 +107,9 @@ fn is_read<F: AssociationFields>(
     row: &Row,
 ) -> Result<bool, ParseError> {
     let mut parser = Parser::from_ref(row.octets);
-    let other = FieldsData::<F>::parse_rdata(alloc, Rtype::A, &mut parser)?;
+    let other = AssociationData::<F>::parse_rdata(alloc, Rtype::A, &mut parser)?;
     let place = parser.pos();
-    let Some(found) = FieldsData::<F>::parse_rdata(alloc, rtype, &mut parser)? else {
+    let Some(found) = AssociationData::<F>::parse_rdata(alloc, rtype, &mut parser)? else {
         return Ok(false);
     };
     let copy = found.try_clone(alloc)?;
@@ -195,7 +195,7 @@ fn a_text_is_the_data_of_its_fields(rt: HostRuntime) {
 /// Why octets are no data, and whether the parser stayed.
 fn unread<F: AssociationFields>(alloc: Global, octets: &[u8]) -> Option<(ParseError, bool)> {
     let mut parser = Parser::from_ref(octets);
-    let error = FieldsData::<F>::parse(alloc, &mut parser).err()?;
+    let error = AssociationData::<F>::parse(alloc, &mut parser).err()?;
     Some((error, parser.pos() == 0))
 }
 

@@ -7,16 +7,16 @@ use Rattle.std.specs.Char.{to_ascii_lowercase}
 use Rattle.std.specs.Cmp.Lexicographic.{pointwise}
 use Rattle.std.specs.Fmt.{decimal}
 use Rattle.std.proofs.lemmas.Bool.{and_parts}
-use Rattle.registry.specs.Tables.{lower, is_same, mnemonic_of, number_of, is_table}
+use Rattle.registry.specs.Tables.{lower_case, is_same, mnemonic_of, number_of, is_table}
 use Rattle.registry.specs.Texts.{begins_with_key, generic_key, spelled_key, printed_key, is_key_table}
 use Rattle.registry.specs.TableLaws.{same_lower, number_of-mnemonic_of}
 use Rattle.registry.specs.TextLaws.{spelled_number-decimal}
 
 -- texts that are the same but for case begin with `key` or do not
-begins_with_key-lower : (a b : List ℕ) → lower a ≡ lower b → begins_with_key a ≡ begins_with_key b
+begins_with_key-lower : (a b : List ℕ) → lower_case a ≡ lower_case b → begins_with_key a ≡ begins_with_key b
 begins_with_key-lower a b e =
-    let front : lower (take 3 a) ≡ lower (take 3 b) = sym (take-map to_ascii_lowercase 3 a) ∙ ap (take 3) e ∙ take-map to_ascii_lowercase 3 b in
-    ap (λ (t : List ℕ). pointwise ◌==◌ t (lower (codes "key"))) front
+    let front : lower_case (take 3 a) ≡ lower_case (take 3 b) = sym (take-map to_ascii_lowercase 3 a) ∙ ap (take 3) e ∙ take-map to_ascii_lowercase 3 b in
+    ap (λ (t : List ℕ). pointwise ◌==◌ t (lower_case (codes "key"))) front
 
 -- a test is not true and false
 not_true : (b : Bool) → not b ≡ true → b ≡ true → ⊥

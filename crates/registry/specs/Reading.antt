@@ -22,5 +22,5 @@ octets_taken true (Ok taken) = taken.len
 octets_taken true (Err fault) = 0
 
 -- the input behind octets that are taken
-abbrev pub behind : Input → ℕ → Input
-behind input len = record input { pos = input.pos + len }
+abbrev pub input_behind : Input → ℕ → Input
+input_behind input len = record input { pos = input.pos + len }

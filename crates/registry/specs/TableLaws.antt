@@ -4,7 +4,7 @@ use Rattle.std.specs.Prelude.{nat_lt, ◌==◌, is_none, option_map}
 use Rattle.std.proofs.lemmas.Bool.{and_parts}
 use Rattle.std.proofs.lemmas.Bool.Decides.{nat_tests}
 use Rattle.std.specs.Cmp.Lexicographic.{pointwise, bytes_decides}
-use Rattle.registry.specs.Tables.{lower, is_same, mnemonic_of, number_of, is_one_line, is_table, MnemonicsRead, NumbersRead, MnemonicsOneLine}
+use Rattle.registry.specs.Tables.{lower_case, is_same, mnemonic_of, number_of, is_one_line, is_table, MnemonicsRead, NumbersRead, MnemonicsOneLine}
 
 -- what the test says of a first row
 record FirstRow (bound : ℕ) (row : ℕ × List ℕ) (rows : List (ℕ × List ℕ)) : Type 0 where
@@ -22,17 +22,17 @@ first_row bound row rows e =
     record { one_line = q.1; new_number = s.1; new_name = r.1; others = p.1 }
 
 -- two texts are the same in lower case
-pub same_lower : (a b : List ℕ) → is_same a b ≡ true → lower a ≡ lower b
-same_lower a b e = (bytes_decides (lower a) (lower b)).0 e
+pub same_lower : (a b : List ℕ) → is_same a b ≡ true → lower_case a ≡ lower_case b
+same_lower a b e = (bytes_decides (lower_case a) (lower_case b)).0 e
 
-pub lower_same : (a b : List ℕ) → lower a ≡ lower b → is_same a b ≡ true
-lower_same a b e = (bytes_decides (lower a) (lower b)).1 e
+pub lower_same : (a b : List ℕ) → lower_case a ≡ lower_case b → is_same a b ≡ true
+lower_same a b e = (bytes_decides (lower_case a) (lower_case b)).1 e
 
 -- a look-up does not see case
-pub number_of-lower : (rows : List (ℕ × List ℕ)) (a b : List ℕ) → lower a ≡ lower b → number_of rows a ≡ number_of rows b
+pub number_of-lower : (rows : List (ℕ × List ℕ)) (a b : List ℕ) → lower_case a ≡ lower_case b → number_of rows a ≡ number_of rows b
 number_of-lower [] a b e = refl
 number_of-lower (row ∷ rows) a b e =
-    let same : is_same row.1 a ≡ is_same row.1 b = ap (λ m. pointwise ◌==◌ (lower row.1) m) e in
+    let same : is_same row.1 a ≡ is_same row.1 b = ap (λ m. pointwise ◌==◌ (lower_case row.1) m) e in
     rw same (ap (λ o. cond (is_same row.1 b) (Some row.0) o) (number_of-lower rows a b e))
 
 -- nothing cannot be found
@@ -48,7 +48,7 @@ number_of-mnemonic_of bound (row ∷ rows) is n m e =
       | true ↦ λ at e.
           let name : row.1 ≡ m = cc in
           let number : row.0 ≡ n = grind (arith, nat_tests) in
-          let same : is_same row.1 m ≡ true = lower_same row.1 m (ap lower name) in
+          let same : is_same row.1 m ≡ true = lower_same row.1 m (ap lower_case name) in
           rw same (ap Some number)
       | false ↦ λ at e.
           let first = first_row bound row rows is in
@@ -63,23 +63,23 @@ number_of-mnemonic_of bound (row ∷ rows) is n m e =
 pub mnemonic_of-number_of : (bound : ℕ) (rows : List (ℕ × List ℕ)) → is_table bound rows ≡ true → NumbersRead rows
 mnemonic_of-number_of bound [] is m n e = cc
 mnemonic_of-number_of bound (row ∷ rows) is m n e =
-    elim (is_same row.1 m) as (λ t. is_same row.1 m ≡ t → cond t (Some row.0) (number_of rows m) ≡ Some n → option_map lower (mnemonic_of (row ∷ rows) n) ≡ Some (lower m)) [
+    elim (is_same row.1 m) as (λ t. is_same row.1 m ≡ t → cond t (Some row.0) (number_of rows m) ≡ Some n → option_map lower_case (mnemonic_of (row ∷ rows) n) ≡ Some (lower_case m)) [
       | true ↦ λ same e.
           let number : row.0 ≡ n = cc in
           let at : (row.0 == n) ≡ true = grind (arith, nat_tests) in
           rw at (ap Some (same_lower row.1 m same))
       | false ↦ λ same e.
           let first = first_row bound row rows is in
-          let found : option_map lower (mnemonic_of rows n) ≡ Some (lower m) = mnemonic_of-number_of bound rows first.others m n e in
-          elim (row.0 == n) as (λ t. (row.0 == n) ≡ t → option_map lower (cond t (Some row.1) (mnemonic_of rows n)) ≡ Some (lower m)) [
+          let found : option_map lower_case (mnemonic_of rows n) ≡ Some (lower_case m) = mnemonic_of-number_of bound rows first.others m n e in
+          elim (row.0 == n) as (λ t. (row.0 == n) ≡ t → option_map lower_case (cond t (Some row.1) (mnemonic_of rows n)) ≡ Some (lower_case m)) [
             | true ↦ λ at.
                 let number : row.0 ≡ n = grind (arith, nat_tests) in
-                absurd (mapped (mnemonic_of rows n) (lower m) (subst (λ (k : ℕ). is_none (mnemonic_of rows k) ≡ true) number first.new_number) found)
+                absurd (mapped (mnemonic_of rows n) (lower_case m) (subst (λ (k : ℕ). is_none (mnemonic_of rows k) ≡ true) number first.new_number) found)
             | false ↦ λ at. found
           ] refl
     ] refl e
   where
-    mapped : (o : Option (List ℕ)) (x : List ℕ) → is_none o ≡ true → option_map lower o ≡ Some x → ⊥
+    mapped : (o : Option (List ℕ)) (x : List ℕ) → is_none o ≡ true → option_map lower_case o ≡ Some x → ⊥
     mapped None x e h = cc
     mapped (Some y) x e h = cc
 

@@ -5,12 +5,12 @@ use Rattle.std.specs.Char.{to_ascii_lowercase}
 use Rattle.std.specs.Cmp.Lexicographic.{pointwise}
 
 -- a text with its ASCII letters in lower case
-abbrev pub lower : List ℕ → List ℕ
-lower = map to_ascii_lowercase
+abbrev pub lower_case : List ℕ → List ℕ
+lower_case = map to_ascii_lowercase
 
 -- whether two texts are the same, ASCII case ignored
 abbrev pub is_same : List ℕ → List ℕ → Bool
-is_same a b = pointwise ◌==◌ (lower a) (lower b)
+is_same a b = pointwise ◌==◌ (lower_case a) (lower_case b)
 
 -- the mnemonic of a number
 abbrev pub mnemonic_of : List (ℕ × List ℕ) → ℕ → Option (List ℕ)
@@ -38,7 +38,7 @@ MnemonicsRead rows = (n : ℕ) (m : List ℕ) → mnemonic_of rows n ≡ Some m 
 
 -- what is read as a number is its mnemonic, but for case
 abbrev pub NumbersRead : List (ℕ × List ℕ) → Type 0
-NumbersRead rows = (m : List ℕ) (n : ℕ) → number_of rows m ≡ Some n → option_map lower (mnemonic_of rows n) ≡ Some (lower m)
+NumbersRead rows = (m : List ℕ) (n : ℕ) → number_of rows m ≡ Some n → option_map lower_case (mnemonic_of rows n) ≡ Some (lower_case m)
 
 -- no mnemonic has a line feed
 abbrev pub MnemonicsOneLine : List (ℕ × List ℕ) → Type 0

@@ -12,9 +12,9 @@
 ghost use Rattle.std.specs.Prelude.{◌≡◌, ℕ, ◌+◌, ◌≤◌, Bool, List, ◌++◌, length, Result, OnOk, OnErr};
 ghost use Rattle.name_spec.specs.Octets.{Fault};
 ghost use Rattle.name_spec.specs.Taking.{Taken};
-ghost use Rattle.wire_base.specs.Input.{left};
+ghost use Rattle.wire_base.specs.Input.{octets_left};
 ghost use Rattle.wire_base.specs.Moving.{AppendsOctets};
-ghost use Rattle.registry.specs.Reading.{ValueAnswers, octets_taken, behind};
+ghost use Rattle.registry.specs.Reading.{ValueAnswers, octets_taken, input_behind};
 
 use crate::svc_param_key::SvcParamKey;
 use wire_base::{NoMemory, ParseError, Parser};
@@ -52,11 +52,11 @@ pub trait ParseSvcParamValue<'a>: SvcParamValue + Sized + Drop {
     /// octets, and never for want of memory. The parser stays where there is no value.
     ///
     /// No clause says that the parser is still within its data: a parser always is, by its own invariant, which
-    /// `Parser::pos` and `Parser::peek_all` tell.
+    /// `Parser::pos` and `Parser::remaining_octets` tell.
     fn parse_value(key: SvcParamKey, parser: &mut Parser<'a>) -> Result<Option<Self>, ParseError>
-        ensures answer { ValueAnswers seen result (takes key) (reads key (left parser.old)) }
+        ensures answer { ValueAnswers seen result (takes key) (reads key (octets_left parser.old)) }
         ensures moved { parser.new
-            ≡ behind parser.old (octets_taken (takes key) (reads key (left parser.old))) };
+            ≡ input_behind parser.old (octets_taken (takes key) (reads key (octets_left parser.old))) };
 }
 
 /// A value that is composed.

@@ -41,7 +41,7 @@ impl<'a> ParseSvcParamValue<'a> for Weight {
         key: SvcParamKey,
         parser: &mut Parser<'a>,
     ) -> Result<Option<Weight>, ParseError> {
-        let octets = parser.peek_all();
+        let octets = parser.remaining_octets();
         if u16::from(key) != Weight::KEY {
             return Ok(None);
         }

@@ -10,7 +10,7 @@ use Rattle.text_spec.specs.declared.errors.ScanError.TheVariants.{BadListEscape,
 use Rattle.svcb_spec.specs.ListTexts.{◌>>=◌, is_escaped_in_item, escaped_item, ItemRead, onto_item, read_item, some_octets}
 use Rattle.svcb_spec.specs.ValueTexts.{short_item, protocol_item, protocols_step, protocols_within, protocols_of, short_value}
 use Rattle.svcb_spec.specs.PrintedValues.{value_printed}
-use Rattle.svcb_laws.specs.ParamTextLaws.{IsTextOf, IsProtocol}
+use Rattle.svcb_laws.specs.ParamTextLaws.{IsValueText, IsProtocol}
 use Rattle.svcb_laws.proofs.BareTexts.{IsBareText, bare-octets}
 use Rattle.svcb_laws.proofs.OpaqueTexts.{short_again}
 use Rattle.svcb_laws.proofs.PlainLists.{some_text_again, some-join}
@@ -115,7 +115,7 @@ bare-protocols (protocol ∷ protocols) are =
     (bare-octets (escaped_item protocol) (octets-escaped protocol are.0), bare-protocols protocols are.1)
 
 pub alpn_again : (protocol : List ℕ) (protocols : List (List ℕ)) → Each IsProtocol (protocol ∷ protocols) → Each AreOctets (protocol ∷ protocols)
-    → length (encode (Alpn (protocol ∷ protocols))) < 65536 → IsTextOf (value_printed (Alpn (protocol ∷ protocols))) (Alpn (protocol ∷ protocols))
+    → length (encode (Alpn (protocol ∷ protocols))) < 65536 → IsValueText (value_printed (Alpn (protocol ∷ protocols))) (Alpn (protocol ∷ protocols))
 alpn_again protocol protocols are octets few =
     let list = join_with_byte 44 (map escaped_item (protocol ∷ protocols)) in
     items_again (codes "alpn") (λ item. printed_octets (escaped_item item)) escaped_item protocol protocols (Alpn (protocol ∷ protocols)) refl

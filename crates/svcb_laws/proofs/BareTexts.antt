@@ -7,7 +7,7 @@ use Rattle.std.proofs.lemmas.Bool.Decides.{nat_tests}
 use Rattle.std.proofs.lemmas.Grind.{flat_map-append}
 use Rattle.std.proofs.lemmas.List.{map-append}
 use Rattle.std.proofs.lemmas.List.Sums.{take_while-cons}
-use Rattle.name_spec.specs.Printed.{Written, Plain, written, is_special, printed_octets}
+use Rattle.name_spec.specs.Printed.{Written, Plain, octet_text, is_special, printed_octets}
 use Rattle.name_spec.specs.AddressLaws.{AreOctets}
 use Rattle.svcb_spec.specs.Values.{Value}
 use Rattle.text_spec.specs.declared.errors.ScanError.TheVariants.{EmptyParam, BadKeyChar}
@@ -17,26 +17,26 @@ use Rattle.text_spec.specs.Scanning.{octets_of}
 use Rattle.text_spec.proofs.PrintedTexts.{AreBare, AreBare-append, AreBare-printed, token_text-bare, written_as, written-printed, octets_of-printed}
 use Rattle.text_spec.proofs.PlainTexts.{ArePlain, octets_of-plain}
 use Rattle.svcb_spec.specs.ParamTexts.{is_key_octet, key_text, value_text, value_behind, spells}
-use Rattle.svcb_laws.specs.ParamTextLaws.{IsTextOf}
+use Rattle.svcb_laws.specs.ParamTextLaws.{IsValueText}
 
 -- ---- texts of bare symbols
 
 -- the text's symbols stand bare and have these octets
 abbrev pub IsBareText : List ℕ → List ℕ → Type 0
 IsBareText text octets =
-    (symbols : List Written) × AreBare symbols × (text ≡ flat_map written symbols) × (octets_of (map symbol_of symbols) ≡ octets)
+    (symbols : List Written) × AreBare symbols × (text ≡ flat_map octet_text symbols) × (octets_of (map symbol_of symbols) ≡ octets)
 
 pub bare-append : (t o u p : List ℕ) → IsBareText t o → IsBareText u p → IsBareText (t ++ u) (o ++ p)
 bare-append t o u p (front, are, is, have) (behind, are', is', have') = (
   front ++ behind,
   AreBare-append front behind are are',
-  ap (λ (x : List ℕ). x ++ u) is ∙ ap (λ (x : List ℕ). flat_map written front ++ x) is' ∙ sym (flat_map-append written front behind),
+  ap (λ (x : List ℕ). x ++ u) is ∙ ap (λ (x : List ℕ). flat_map octet_text front ++ x) is' ∙ sym (flat_map-append octet_text front behind),
   ap (λ (x : List Symbol). octets_of x) (map-append symbol_of front behind)
       ∙ map-append (λ (s : Symbol). s.octet) (map symbol_of front) (map symbol_of behind)
       ∙ ap (λ (x : List ℕ). x ++ octets_of (map symbol_of behind)) have ∙ ap (λ (x : List ℕ). o ++ x) have',
 )
 
-written-plain : (text : List ℕ) → flat_map written (map Plain text) ≡ text
+written-plain : (text : List ℕ) → flat_map octet_text (map Plain text) ≡ text
 written-plain [] = refl
 written-plain (c ∷ text) = ap (λ (t : List ℕ). c ∷ t) (written-plain text)
 
@@ -54,7 +54,7 @@ bare-octets octets are =
     (written_as is_special octets, AreBare-printed octets are, sym (written-printed is_special octets), octets_of-printed is_special octets)
 
 -- such a text is wholly a token
-pub bare_text_of : (text octets : List ℕ) (value : Value) → IsBareText text octets → spells octets ≡ Ok value → IsTextOf text value
+pub bare_text_of : (text octets : List ℕ) (value : Value) → IsBareText text octets → spells octets ≡ Ok value → IsValueText text value
 bare_text_of text octets value ([], are, is, have) spelled = absurd (cc (ap spells have ∙ spelled))
 bare_text_of text octets value (symbol ∷ symbols, are, is, have) spelled = (
   map symbol_of (symbol ∷ symbols),

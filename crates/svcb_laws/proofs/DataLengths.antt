@@ -8,7 +8,7 @@ use Rattle.svcb_spec.specs.Params.{Pairs, Ascends, pairs_wire, wire}
 use Rattle.svcb_spec.proofs.WireLaws.{wire-pairs}
 use Rattle.svcb_spec.specs.PrintedParams.{pair_printed, pair_texts, params_printed}
 use Rattle.svcb_laws.specs.ParamTextLaws.{HaveOctets}
-use Rattle.svcb_spec.specs.DataTexts.{data_printed}
+use Rattle.svcb_spec.specs.DataTexts.{svcb_printed}
 use Rattle.svcb_laws.specs.TextLengthLaws.{ParamsTextByOctets, DataTextByOctets, DataLineFits}
 use Rattle.svcb_laws.proofs.PieceLengths.{number-length, label-length, room, join-length}
 use Rattle.svcb_laws.proofs.ValueLengths.{pair-length}
@@ -69,4 +69,4 @@ data-length found is =
 pub line-fits : DataLineFits
 line-fits found is =
     let few = is.is_record.fits in
-    omega (arith, few, data-length found is, length-append (data_printed found) (10 ∷ []))
+    omega (arith, few, data-length found is, length-append (svcb_printed found) (10 ∷ []))

@@ -9,7 +9,7 @@ use Rattle.svcb_spec.specs.Params.{Pairs, pairs_wire, wire}
 use Rattle.svcb_spec.specs.Records.{Record, IsRecord}
 use Rattle.svcb_spec.proofs.WireLaws.{wire-pairs}
 use Rattle.svcb_laws.specs.ParamTextLaws.{HaveOctets}
-use Rattle.svcb_laws.specs.DataTextLaws.{IsData}
+use Rattle.svcb_laws.specs.DataTextLaws.{IsRecordOfOctets}
 
 -- octets in two parts
 pub octets_parts : (front behind : List ℕ) → AreOctets (front ++ behind) → AreOctets front × AreOctets behind
@@ -35,7 +35,7 @@ values_octets (pair ∷ pairs) are =
     ((octets_parts (be2 pair.0 ++ be2 (length pair.1)) pair.1 parts.0).1, values_octets pairs parts.1)
 
 -- a record whose octets are octets
-pub is_data : (found : Record) → IsRecord found → AreOctets (name_wire found.labels) → AreOctets (wire found.pairs) → IsData found
+pub is_data : (found : Record) → IsRecord found → AreOctets (name_wire found.labels) → AreOctets (wire found.pairs) → IsRecordOfOctets found
 is_data found is target parameters = record {
   is_record = is;
   labels = labels_octets found.labels target;

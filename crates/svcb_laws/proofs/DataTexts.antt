@@ -14,17 +14,17 @@ use Rattle.text_spec.proofs.Again.{has_tokens}
 use Rattle.text_spec.proofs.Splits.{layout_splits}
 use Rattle.text_spec.proofs.TokenTexts.{blank_on, token_on}
 use Rattle.svcb_spec.specs.PrintedParams.{pair_texts, params_printed}
-use Rattle.svcb_laws.specs.ParamTextLaws.{AreTokenTexts}
+use Rattle.svcb_laws.specs.ParamTextLaws.{AreTextsOfTokens}
 use Rattle.svcb_laws.proofs.ParamTokens.{has_tokens-spaced}
-use Rattle.svcb_spec.specs.DataTexts.{data_printed, svcb_data}
+use Rattle.svcb_spec.specs.DataTexts.{svcb_printed, svcb_data}
 use Rattle.svcb_spec.specs.DataDocuments.{params_document, svcb_document}
 use Rattle.svcb_spec.specs.DataDocumentLaws.{document-svcb}
-use Rattle.svcb_laws.specs.DataTextLaws.{IsData, AreTokensOf, IsTextOf, DataTextReadBack, DataLineReadBack, DataLayoutReadBack}
+use Rattle.svcb_laws.specs.DataTextLaws.{IsRecordOfOctets, AreTokensOf, IsRecordText, DataTextReadBack, DataLineReadBack, DataLayoutReadBack}
 use Rattle.svcb_laws.proofs.Lines.{line_again}
 use Rattle.svcb_laws.proofs.DataTokens.{data_texts, tokens_of_data, data_again}
 
 -- a text whose tokens are those of a record's texts
-text_of : (text : List ℕ) (found : Record) (tokens : List (List Symbol)) → IsData found → AreTokenTexts (data_texts found) tokens → HasTokens text tokens → IsTextOf text found
+text_of : (text : List ℕ) (found : Record) (tokens : List (List Symbol)) → IsRecordOfOctets found → AreTextsOfTokens (data_texts found) tokens → HasTokens text tokens → IsRecordText text found
 text_of text found tokens is are has = record {
   some = (tokens, has);
   scanned = λ others have. subst (λ ts. AreTokensOf ts found)
@@ -32,13 +32,13 @@ text_of text found tokens is are has = record {
 }
 
 -- the tokens of such a text, by themselves
-pub scanned_whole : (text : List ℕ) (found : Record) (tokens : List (List Symbol)) → IsTextOf text found → HasTokens text tokens
+pub scanned_whole : (text : List ℕ) (found : Record) (tokens : List (List Symbol)) → IsRecordText text found → HasTokens text tokens
     → svcb_data tokens 0 ≡ done found (length tokens)
 scanned_whole text found tokens is has = is.scanned tokens has [] ∙ ap (done found) (zero-add (length tokens))
 
 -- ---- the printed text
 
-text_tokens : (found : Record) (tokens : List (List Symbol)) → AreTokenTexts (data_texts found) tokens → HasTokens (data_printed found) tokens
+text_tokens : (found : Record) (tokens : List (List Symbol)) → AreTextsOfTokens (data_texts found) tokens → HasTokens (svcb_printed found) tokens
 text_tokens found [] are = absurd are
 text_tokens found (priority ∷ []) are = absurd are.1
 text_tokens found (priority ∷ target ∷ tokens) are =
@@ -53,13 +53,13 @@ text_tokens found (priority ∷ target ∷ tokens) are =
 pub text_again : DataTextReadBack
 text_again found is =
     let tokens = tokens_of_data found is in
-    text_of (data_printed found) found tokens.0 is tokens.1 (text_tokens found tokens.0 tokens.1)
+    text_of (svcb_printed found) found tokens.0 is tokens.1 (text_tokens found tokens.0 tokens.1)
 
 pub line_text_again : DataLineReadBack
 line_text_again found is =
     let tokens = tokens_of_data found is in
-    text_of (data_printed found ++ 10 ∷ []) found tokens.0 is tokens.1
-    (line_again (data_printed found) tokens.0 (text_tokens found tokens.0 tokens.1))
+    text_of (svcb_printed found ++ 10 ∷ []) found tokens.0 is tokens.1
+    (line_again (svcb_printed found) tokens.0 (text_tokens found tokens.0 tokens.1))
 
 -- ---- layouts
 
@@ -78,7 +78,7 @@ token_first [] token items tokens is are = absurd (not_empty token is)
 token_first (c ∷ text) token items tokens is are = (is, are)
 
 -- the tokens of texts, and the ends of two blocks
-texts_and_ends : (texts : List (List ℕ)) (tokens : List (List Symbol)) → AreTokenTexts texts tokens
+texts_and_ends : (texts : List (List ℕ)) (tokens : List (List Symbol)) → AreTextsOfTokens texts tokens
     → layouts.AreTokenTexts ((map (λ text. Token text) texts ++ BlockEnd ∷ []) ++ BlockEnd ∷ []) tokens
 texts_and_ends [] [] are = tt
 texts_and_ends [] (token ∷ tokens) are = absurd are
@@ -86,7 +86,7 @@ texts_and_ends (text ∷ texts) [] are = absurd are
 texts_and_ends (text ∷ texts) (token ∷ tokens) are =
     token_first text token ((map (λ t. Token t) texts ++ BlockEnd ∷ []) ++ BlockEnd ∷ []) tokens are.0 (texts_and_ends texts tokens are.1)
 
-document_tokens : (found : Record) (tokens : List (List Symbol)) → AreTokenTexts (data_texts found) tokens → layouts.AreTokenTexts (svcb_document found) tokens
+document_tokens : (found : Record) (tokens : List (List Symbol)) → AreTextsOfTokens (data_texts found) tokens → layouts.AreTokenTexts (svcb_document found) tokens
 document_tokens found [] are = absurd are
 document_tokens found (priority ∷ []) are = absurd are.1
 document_tokens found (priority ∷ target ∷ tokens) are =

@@ -20,10 +20,10 @@ use Rattle.text_spec.proofs.PlainTexts.{decimal_again}
 use Rattle.text_spec.specs.Rows.{by_name, name}
 use Rattle.svcb_spec.specs.ParamTexts.{params}
 use Rattle.svcb_spec.specs.PrintedParams.{pair_texts}
-use Rattle.svcb_laws.specs.ParamTextLaws.{AreTokenTexts}
+use Rattle.svcb_laws.specs.ParamTextLaws.{AreTextsOfTokens}
 use Rattle.svcb_laws.proofs.ParamTokens.{one_token, params_again, tokens_of_texts}
-use Rattle.svcb_spec.specs.DataTexts.{fitting}
-use Rattle.svcb_laws.specs.DataTextLaws.{IsData, AreTokensOf}
+use Rattle.svcb_spec.specs.DataTexts.{within_record_limit}
+use Rattle.svcb_laws.specs.DataTextLaws.{IsRecordOfOctets, AreTokensOf}
 
 -- ---- one token behind others
 
@@ -58,19 +58,19 @@ number-means n token below is =
     ap (λ text. ok_or (spelled_number (2 ^ 16) text) BadNumber) octets
     ∙ ap (λ number. ok_or number BadNumber) (spelled_number-decimal (2 ^ 16) n below (omega arith))
 
-name-means : (found : Record) (token : List Symbol) → IsData found → IsTokenText (printed_name_with_dot found.labels) token → by_name token ≡ Ok found.labels
+name-means : (found : Record) (token : List Symbol) → IsRecordOfOctets found → IsTokenText (printed_name_with_dot found.labels) token → by_name token ≡ Ok found.labels
 name-means found token is text =
     let own = name_again found.labels is.is_record.labels is.labels in
     ap (λ labels. ok_or labels BadName) (ap name_of (one_token (printed_name_with_dot found.labels) token own.0 text own.1) ∙ own.2)
 
-fits : (found : Record) (end : ℕ) → IsData found → fitting found end ≡ done found end
+fits : (found : Record) (end : ℕ) → IsRecordOfOctets found → within_record_limit found end ≡ done found end
 fits found end is =
     let below = is.is_record.fits in
     let short : nat_lt 65535 (length (rdata found.priority found.labels found.pairs)) ≡ false = grind (arith, nat_tests) in
     ap (λ long. cond long (refused LongRecord end) (done found end)) short
 
 -- a record's texts have tokens
-pub tokens_of_data : (found : Record) → IsData found → (tokens : List (List Symbol)) × AreTokenTexts (data_texts found) tokens
+pub tokens_of_data : (found : Record) → IsRecordOfOctets found → (tokens : List (List Symbol)) × AreTextsOfTokens (data_texts found) tokens
 tokens_of_data found is =
     let small = is.is_record.priority in
     let priority = decimal_again found.priority (omega arith) in
@@ -81,13 +81,13 @@ tokens_of_data found is =
 -- what is scanned behind the priority, and behind the target
 abbrev behind_target : List (List Symbol) → ℕ → List (List ℕ) → ℕ → Scanned Record
 behind_target tokens priority labels place =
-    scan_then (params tokens place) (λ pairs end. fitting (record { priority = priority; labels = labels; pairs = pairs }) end)
+    scan_then (params tokens place) (λ pairs end. within_record_limit (record { priority = priority; labels = labels; pairs = pairs }) end)
 
 abbrev behind_priority : List (List Symbol) → ℕ → ℕ → Scanned Record
 behind_priority tokens priority place = scan_then (name tokens place) (behind_target tokens priority)
 
 -- the tokens of a record's texts are scanned as that record
-pub data_again : (found : Record) (tokens : List (List Symbol)) → IsData found → AreTokenTexts (data_texts found) tokens → AreTokensOf tokens found
+pub data_again : (found : Record) (tokens : List (List Symbol)) → IsRecordOfOctets found → AreTextsOfTokens (data_texts found) tokens → AreTokensOf tokens found
 data_again found [] is are front = absurd are
 data_again found (priority ∷ []) is are front = absurd are.1
 data_again found (priority ∷ target ∷ tokens) is are front =
@@ -103,7 +103,7 @@ data_again found (priority ∷ target ∷ tokens) is are front =
     ∙ ap (λ left. scan_then (name left (length one_taken)) (behind_target all found.priority)) behind_one
     ∙ then-found by_name (behind_target all found.priority) one_taken target tokens found.labels (name-means found target is are.1.0)
     ∙ ap (λ left. behind_target left found.priority found.labels (length two_taken)) behind_two
-    ∙ ap (λ scanned. scan_then scanned (λ pairs end. fitting (record { priority = found.priority; labels = found.labels; pairs = pairs }) end))
+    ∙ ap (λ scanned. scan_then scanned (λ pairs end. within_record_limit (record { priority = found.priority; labels = found.labels; pairs = pairs }) end))
     (params_again found.pairs is.is_record.is_map is.values two_taken tokens are.1.1)
     ∙ fits found (length two_taken + length tokens) is
     ∙ ap (done found) count

@@ -3,7 +3,7 @@ use Rattle.std.proofs.Common.{◌≡◌, ℕ, zero, suc, List, [], ◌∷◌, �
 use Rattle.std.proofs.lemmas.Grind.{flat_map-append}
 use Rattle.std.proofs.lemmas.List.{append-nil}
 use Rattle.std.specs.List.{flat_map}
-use Rattle.text_spec.specs.Pieces.{Piece, Blank, LineEnd, Comment, Opening, Closing, Bare, Quoted, spelled, EndsLine, IsComment, IsTailRow, IsEntry, tokens_of}
+use Rattle.text_spec.specs.Pieces.{Piece, Blank, LineEnd, Comment, Opening, Closing, Bare, Quoted, piece_octets, EndsLine, IsComment, IsTailRow, IsEntry, tokens_of}
 use Rattle.text_spec.proofs.WordRows.{tokens_of-gap}
 use Rattle.svcb_laws.specs.DataTextLaws.{LineHasTokens}
 
@@ -15,13 +15,13 @@ EndsLine-line : (text : List ℕ) → EndsLine (text ++ []) → EndsLine ((text 
 EndsLine-line [] ends = refl
 EndsLine-line (c ∷ text) ends = ends
 
-spelled-ended : (pieces : List Piece) → flat_map spelled (ended pieces) ≡ flat_map spelled pieces ++ 10 ∷ []
-spelled-ended pieces = flat_map-append spelled pieces (LineEnd ∷ [])
+spelled-ended : (pieces : List Piece) → flat_map piece_octets (ended pieces) ≡ flat_map piece_octets pieces ++ 10 ∷ []
+spelled-ended pieces = flat_map-append piece_octets pieces (LineEnd ∷ [])
 
-comment-line : (text : List ℕ) (pieces : List Piece) → IsComment text (flat_map spelled pieces ++ [])
-    → IsComment text (flat_map spelled (ended pieces) ++ [])
+comment-line : (text : List ℕ) (pieces : List Piece) → IsComment text (flat_map piece_octets pieces ++ [])
+    → IsComment text (flat_map piece_octets (ended pieces) ++ [])
 comment-line text pieces is =
-    (is.0, subst (λ following. EndsLine (following ++ [])) (sym (spelled-ended pieces)) (EndsLine-line (flat_map spelled pieces) is.1))
+    (is.0, subst (λ following. EndsLine (following ++ [])) (sym (spelled-ended pieces)) (EndsLine-line (flat_map piece_octets pieces) is.1))
 
 tail-line : (pieces : List Piece) → IsTailRow (Unit {0}) [] pieces → IsTailRow (Unit {0}) [] (ended pieces)
 tail-line [] row = tt

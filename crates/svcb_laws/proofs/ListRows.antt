@@ -9,7 +9,7 @@ use Rattle.registry.specs.Texts.{spelled_key, spelled_number}
 use Rattle.svcb_spec.specs.Values.{Value, Mandatory, Alpn, Ipv4Hint, Ipv6Hint, TlsSupportedGroups, Each}
 use Rattle.text_spec.specs.declared.errors.ScanError.TheVariants.{UnknownKey, BadNumber, BadAddress, KeyZeroInMandatory}
 use Rattle.svcb_spec.specs.ListTexts.{◌>>=◌, comma_items, read_items}
-use Rattle.svcb_spec.specs.ValueTexts.{new_item, other_key, mandatory_item, group_item, address_item, ascending, some_text, protocols_of, short_value}
+use Rattle.svcb_spec.specs.ValueTexts.{new_item, other_key, mandatory_item, group_item, address_item, in_ascending_order, some_text, protocols_of, short_value}
 use Rattle.svcb_laws.specs.ParamTextLaws.{IsListOf, IsShort, MandatoryExact, AlpnValueExact, HintsExact, GroupsExact}
 use Rattle.svcb_laws.proofs.Answers.{before_ok}
 use Rattle.svcb_laws.proofs.NumberLists.{is_in, IsNew, new_again, new_item-ok, all_new-distinct, distinct-all_new}
@@ -126,7 +126,7 @@ mandatory_item-exact before item key = (
 
 pub mandatory_exact : MandatoryExact
 mandatory_exact text value =
-    let exact = list_exact mandatory_item (spelled_key parameter_keys) (IsNew IsOtherKey) mandatory_item-exact (λ keys. Mandatory (ascending keys)) text value in (
+    let exact = list_exact mandatory_item (spelled_key parameter_keys) (IsNew IsOtherKey) mandatory_item-exact (λ keys. Mandatory (in_ascending_order keys)) text value in (
       λ is.
           let (keys, list, new, short) = exact.0 is in
           let known = all_new-distinct IsOtherKey keys new in

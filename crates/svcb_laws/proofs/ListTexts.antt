@@ -8,7 +8,7 @@ use Rattle.svcb_spec.specs.ListTexts.{◌>>=◌, comma_items, plain_item, read_i
 use Rattle.svcb_spec.specs.ValueTexts.{some_text, short_value}
 use Rattle.svcb_spec.specs.ParamTexts.{value_behind}
 use Rattle.svcb_spec.specs.PrintedValues.{with_items}
-use Rattle.svcb_laws.specs.ParamTextLaws.{IsTextOf, HasNoComma, HasNoBackslash, IsPlainItem, IsPlainList}
+use Rattle.svcb_laws.specs.ParamTextLaws.{IsValueText, HasNoComma, HasNoBackslash, IsPlainItem, IsPlainList}
 use Rattle.svcb_laws.proofs.BareTexts.{AreOfKey, ArePlain-key, IsBareText, bare-append, bare-plain, bare_text_of, spells-behind}
 use Rattle.svcb_laws.proofs.OpaqueTexts.{short_again}
 use Rattle.svcb_laws.proofs.PlainLists.{plain_item_again, some_text_again, some_list, items-split}
@@ -29,7 +29,7 @@ bare-join text octets (item ∷ next ∷ items) are =
 -- a key and items are wholly a token, which spells what stands behind the key
 pub items_again : {A : Type 0} (key : List ℕ) (text octets : A → List ℕ) (item : A) (items : List A) (value : Value) → AreOfKey key
     → Each (λ item. IsBareText (text item) (octets item)) (item ∷ items)
-    → value_behind key (join_with_byte 44 (map octets (item ∷ items))) ≡ Ok value → IsTextOf (with_items key (map text (item ∷ items))) value
+    → value_behind key (join_with_byte 44 (map octets (item ∷ items))) ≡ Ok value → IsValueText (with_items key (map text (item ∷ items))) value
 items_again key text octets item items value are bare spelled =
     let front = join_with_byte 44 (map text (item ∷ items)) in
     let have = join_with_byte 44 (map octets (item ∷ items)) in

@@ -21,7 +21,7 @@ use Rattle.svcb_spec.specs.ListTexts.{◌>>=◌}
 use Rattle.svcb_spec.specs.ValueTexts.{short_value, opaque_value}
 use Rattle.svcb_spec.specs.ParamTexts.{is_key_octet, value_behind}
 use Rattle.svcb_spec.specs.PrintedValues.{key_name, opaque_key_name, with_text, opaque_text}
-use Rattle.svcb_laws.specs.ParamTextLaws.{IsTextOf}
+use Rattle.svcb_laws.specs.ParamTextLaws.{IsValueText}
 use Rattle.svcb_laws.proofs.BareTexts.{AreOfKey, ArePlain-key, IsBareText, bare-append, bare-plain, bare-octets, bare_text_of, spells-behind, spells-key}
 
 -- ---- values of few octets
@@ -103,7 +103,7 @@ opaque_name key small = elim (cases_lt key 10) [
 
 -- a key and a text, or the key alone where there is none
 pub with_text_again : (key text octets : List ℕ) (value : Value) → 0 < length key → AreOfKey key → IsBareText text octets
-    → value_behind key octets ≡ Ok value → IsTextOf (with_text key text) value
+    → value_behind key octets ≡ Ok value → IsValueText (with_text key text) value
 with_text_again key [] octets value some are bare spelled =
     bare_text_of key key value (bare-plain key (ArePlain-key key are)) (spells-key key some are ∙ ap (value_behind key) (no_octets octets bare) ∙ spelled)
   where
@@ -114,7 +114,7 @@ with_text_again key [] octets value some are bare spelled =
     no_octets octets (Decimal c ∷ symbols, are, is, have) = absurd cc
 with_text_again key (c ∷ text) octets value some are bare spelled =
     let full : (length (c ∷ text) == 0) ≡ false = grind (arith, nat_tests) in
-    subst (λ b. IsTextOf (cond b key (key ++ 61 ∷ c ∷ text)) value) (sym full)
+    subst (λ b. IsValueText (cond b key (key ++ 61 ∷ c ∷ text)) value) (sym full)
     (bare_text_of (key ++ 61 ∷ c ∷ text) (key ++ 61 ∷ octets) value
     (bare-append key key (61 ∷ c ∷ text) (61 ∷ octets) (bare-plain key (ArePlain-key key are))
     (bare-append (61 ∷ []) (61 ∷ []) (c ∷ text) octets (bare-plain (61 ∷ []) (refl, tt)) bare))
@@ -122,7 +122,7 @@ with_text_again key (c ∷ text) octets value some are bare spelled =
 
 -- the text of any octets is read back
 pub opaque_again : (key : ℕ) (octets : List ℕ) → key < 65536 → AreOctets octets → length octets < 65536
-    → IsTextOf (opaque_text key octets) (Unknown key octets)
+    → IsValueText (opaque_text key octets) (Unknown key octets)
 opaque_again key octets small are few =
     let name = opaque_name key small in
     with_text_again (opaque_key_name key) (printed_octets octets) octets (Unknown key octets) name.some name.of_key (bare-octets octets are)

@@ -7,7 +7,7 @@ use Rattle.svcb_spec.specs.Values.{Value, Unknown, key_of, encode, Each, IsValue
 use Rattle.svcb_spec.proofs.ValueLaws.{IsIn, values_in_octets}
 use Rattle.svcb_spec.specs.PrintedValues.{value_printed, opaque_text}
 use Rattle.svcb_spec.specs.PrintedParams.{has_own_text, pair_printed}
-use Rattle.svcb_laws.specs.ParamTextLaws.{IsTextOf, HaveOctets, PairReadBack}
+use Rattle.svcb_laws.specs.ParamTextLaws.{IsValueText, HaveOctets, PairReadBack}
 use Rattle.svcb_laws.proofs.OpaqueTexts.{opaque_again}
 use Rattle.svcb_laws.proofs.ValuesAgain.{typed_again}
 
@@ -17,7 +17,7 @@ pair_value pairs pair = cond (has_own_text pairs (value_in pair.0 pair.1)) (valu
 
 -- the text spells the value, which has the pair's key and octets
 pub record IsPairText (text : List ℕ) (pair : Pair) (value : Value) : Type 0 where
-  pub spelled : IsTextOf text value
+  pub spelled : IsValueText text value
   pub is_value : IsValue value
   pub key : key_of value ≡ pair.0
   pub octets : encode value ≡ pair.1

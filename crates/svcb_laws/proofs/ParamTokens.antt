@@ -18,7 +18,7 @@ use Rattle.text_spec.proofs.Again.{has_tokens}
 use Rattle.text_spec.proofs.TokenTexts.{entry_from_gap, has_no_tokens, blank_on, token_on, has_token}
 use Rattle.svcb_spec.specs.ParamTexts.{spells, has_key, mandatory_keys, are_mandatory_there, insert_pair, map_of, values_at, params}
 use Rattle.svcb_spec.specs.PrintedParams.{holds_key, ascends_above, has_some, has_own_text, pair_printed, pair_texts}
-use Rattle.svcb_laws.specs.ParamTextLaws.{HaveOctets, AreTokenTexts, ParamsReadBack, ParamsTextReadBack}
+use Rattle.svcb_laws.specs.ParamTextLaws.{HaveOctets, AreTextsOfTokens, ParamsReadBack, ParamsTextReadBack}
 use Rattle.svcb_laws.proofs.PairTexts.{pair_value, IsPairText, pair_value_again}
 
 -- ---- tokens that spell values
@@ -86,7 +86,7 @@ module _ (pairs : Pairs) where
   pair_of least pair others ascends octets = pair_value_again pairs pair (record { key = ascends.1; few = ascends.2; octets = octets.0 })
 
   spelled_values : (least : ℕ) (found : Pairs) (tokens : List (List Symbol)) → Ascends least found → HaveOctets found
-      → AreTokenTexts (map (pair_printed pairs) found) tokens → AreSpelled tokens (values_of found)
+      → AreTextsOfTokens (map (pair_printed pairs) found) tokens → AreSpelled tokens (values_of found)
   spelled_values least [] [] ascends octets are = tt
   spelled_values least [] (token ∷ tokens) ascends octets are = absurd are
   spelled_values least (pair ∷ found) [] ascends octets are = absurd are
@@ -192,7 +192,7 @@ params_again pairs is_map octets front tokens are =
 -- ---- the text of a map
 
 -- texts with a space between them have their tokens
-pub has_tokens-spaced : (texts : List (List ℕ)) (tokens : List (List Symbol)) → AreTokenTexts texts tokens → HasTokens (join_with_byte 32 texts) tokens
+pub has_tokens-spaced : (texts : List (List ℕ)) (tokens : List (List Symbol)) → AreTextsOfTokens texts tokens → HasTokens (join_with_byte 32 texts) tokens
 has_tokens-spaced [] [] are = entry_from_gap 0 [] [] has_no_tokens
 has_tokens-spaced [] (token ∷ tokens) are = absurd are
 has_tokens-spaced (text ∷ texts) [] are = absurd are
@@ -204,7 +204,7 @@ has_tokens-spaced (text ∷ next ∷ texts) (token ∷ tokens) are =
 
 -- each pair's text has a token
 pub tokens_of_texts : (pairs : Pairs) (least : ℕ) (found : Pairs) → Ascends least found → HaveOctets found
-    → (tokens : List (List Symbol)) × AreTokenTexts (map (pair_printed pairs) found) tokens
+    → (tokens : List (List Symbol)) × AreTextsOfTokens (map (pair_printed pairs) found) tokens
 tokens_of_texts pairs least [] ascends octets = ([], tt)
 tokens_of_texts pairs least (pair ∷ found) ascends octets =
     let first = (pair_of pairs least pair found ascends octets).spelled in

@@ -9,7 +9,7 @@ use Rattle.std.specs.Prelude.{◌==◌, nat_lt, unwrap_or, replicate}
 use Rattle.std.specs.Fmt.{decimal}
 use Rattle.std.specs.List.{list_all, flat_map, join_with_byte}
 use Rattle.base64.specs.Rfc4648.{encode_symbols, padding_len}
-use Rattle.name_spec.specs.Printed.{Written, Plain, Escaped, Decimal, written, printed_as, printed_octet, printed_octets, printed_label, is_special, is_special_in_name}
+use Rattle.name_spec.specs.Printed.{Written, Plain, Escaped, Decimal, octet_text, printed_as, printed_octet, printed_octets, printed_label, is_special, is_special_in_name}
 use Rattle.registry.specs.Keys.{parameter_keys}
 use Rattle.registry.specs.Tables.{mnemonic_of}
 use Rattle.text_spec.specs.Encodings.{letters, base64_text}
@@ -18,7 +18,7 @@ use Rattle.svcb_spec.specs.PrintedValues.{key_name, opaque_key_name, with_text, 
 
 -- ---- octets
 
-written-length : (way : Written) → length (written way) ≤ 4
+written-length : (way : Written) → length (octet_text way) ≤ 4
 written-length (Plain octet) = omega arith
 written-length (Escaped octet) = omega arith
 written-length (Decimal octet) = omega arith

@@ -11,7 +11,7 @@ use Rattle.svcb_spec.specs.Params.{Pair, Pairs, is_above, with_pair, pair_step, 
 use Rattle.svcb_spec.specs.Records.{Record, IsRecord, read}
 use Rattle.svcb_spec.specs.Values.{Each}
 use Rattle.svcb_laws.specs.ParamTextLaws.{HaveOctets}
-use Rattle.svcb_laws.specs.DataTextLaws.{IsData}
+use Rattle.svcb_laws.specs.DataTextLaws.{IsRecordOfOctets}
 use Rattle.svcb_laws.proofs.DataOctets.{octets_joined}
 
 -- a part of octets is made of octets
@@ -133,7 +133,7 @@ each_octet (c ∷ octets) are = (are.0, each_octet octets are.1)
 
 module _ (message : List ℕ) (start len : ℕ) (found : Record) (are : AreOctets message) where
   by_pairs : (name : NameRead) (pairs : Result Pairs Fault) → name_at message (start + len) (start + 2) 0 0 ≡ Ok name
-      → pairs_at message (start + len) name.next None ≡ pairs → read message start len ≡ Ok found → IsRecord found → IsData found
+      → pairs_at message (start + len) name.next None ≡ pairs → read message start len ≡ Ok found → IsRecord found → IsRecordOfOctets found
   unfolding read
   by_pairs name (Err fault) name_is pairs_are is is_record = absurd (grind (arith, nat_tests))
   by_pairs name (Ok pairs) name_is pairs_are is is_record =
@@ -144,11 +144,11 @@ module _ (message : List ℕ) (start len : ℕ) (found : Record) (are : AreOctet
         values = subst (λ r. HaveOctets r.pairs) (sym same) (pairs_octets message (start + len) are name.next None pairs pairs_are);
       }
 
-  by_name : (name : Result NameRead Fault) → name_at message (start + len) (start + 2) 0 0 ≡ name → read message start len ≡ Ok found → IsRecord found → IsData found
+  by_name : (name : Result NameRead Fault) → name_at message (start + len) (start + 2) 0 0 ≡ name → read message start len ≡ Ok found → IsRecord found → IsRecordOfOctets found
   unfolding read
   by_name (Err fault) name_is is is_record = absurd (grind (arith, nat_tests))
   by_name (Ok name) name_is is is_record = by_pairs name (pairs_at message (start + len) name.next None) name_is refl is is_record
 
   -- a record that was read of octets is made of octets
-  pub read_data : read message start len ≡ Ok found → IsRecord found → IsData found
+  pub read_data : read message start len ≡ Ok found → IsRecord found → IsRecordOfOctets found
   read_data is is_record = by_name (name_at message (start + len) (start + 2) 0 0) refl is is_record

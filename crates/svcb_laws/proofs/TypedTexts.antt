@@ -25,10 +25,10 @@ use Rattle.text_spec.specs.Pieces.{is_bare}
 use Rattle.text_spec.proofs.EncodingTexts.{base64_again}
 use Rattle.text_spec.proofs.PlainTexts.{ArePlain, ArePlain-decimal, ArePlain-base64}
 use Rattle.svcb_spec.specs.ListTexts.{◌>>=◌}
-use Rattle.svcb_spec.specs.ValueTexts.{new_item, other_key, mandatory_item, group_item, address_item, insert_ascending, ascending, short_value, port_value, ech_value}
+use Rattle.svcb_spec.specs.ValueTexts.{new_item, other_key, mandatory_item, group_item, address_item, insert_ascending, in_ascending_order, short_value, port_value, ech_value}
 use Rattle.svcb_spec.specs.PrintedValues.{key_name, value_printed, with_text}
 use Rattle.svcb_spec.specs.PrintedParams.{ascends_above, are_distinct, is_plain}
-use Rattle.svcb_laws.specs.ParamTextLaws.{IsTextOf}
+use Rattle.svcb_laws.specs.ParamTextLaws.{IsValueText}
 use Rattle.svcb_laws.proofs.BareTexts.{bare-plain, bare_text_of, spells-behind}
 use Rattle.svcb_laws.proofs.OpaqueTexts.{short_again, with_text_again}
 use Rattle.svcb_laws.proofs.ItemTexts.{IsItemText, item-decimal, item-ipv4, item-ipv6, item-key_name}
@@ -38,14 +38,14 @@ use Rattle.svcb_laws.proofs.ListTexts.{items_again, item_again, IsReadBack, list
 
 -- ---- values without a list
 
-pub no_default_alpn_again : IsTextOf (value_printed NoDefaultAlpn) NoDefaultAlpn
+pub no_default_alpn_again : IsValueText (value_printed NoDefaultAlpn) NoDefaultAlpn
 no_default_alpn_again =
     with_text_again (codes "no-default-alpn") [] [] NoDefaultAlpn (omega arith) refl (bare-plain [] tt) refl
 
-pub ohttp_again : IsTextOf (value_printed Ohttp) Ohttp
+pub ohttp_again : IsValueText (value_printed Ohttp) Ohttp
 ohttp_again = with_text_again (codes "ohttp") [] [] Ohttp (omega arith) refl (bare-plain [] tt) refl
 
-pub port_again : (port : ℕ) → port < 65536 → IsTextOf (value_printed (Port port)) (Port port)
+pub port_again : (port : ℕ) → port < 65536 → IsValueText (value_printed (Port port)) (Port port)
 port_again port small =
     let plain = ArePlain-decimal port (omega arith) in
     let read : port_value (decimal port) ≡ Ok (Port port) =
@@ -72,7 +72,7 @@ some_base64 octets some are = some_if (base64_text octets) (λ none.
     same_some octets [] (sym (base64_again octets are) ∙ ap base64_of (none ∙ sym base64_none) ∙ base64_again [] tt) in
     omega (arith, ap length empty))
 
-pub ech_again : (octets : List ℕ) → 0 < length octets → AreOctets octets → length octets < 65536 → IsTextOf (value_printed (Ech octets)) (Ech octets)
+pub ech_again : (octets : List ℕ) → 0 < length octets → AreOctets octets → length octets < 65536 → IsValueText (value_printed (Ech octets)) (Ech octets)
 ech_again octets some are few =
     let read : ech_value (base64_text octets) ≡ Ok (Ech octets) =
     ap (λ r. r >>= λ letters. ok_or (base64_of letters) BadBase64 >>= λ octets. short_value (Ech octets)) (some_text_again (base64_text octets) (some_base64 octets some are))
@@ -98,10 +98,10 @@ plain_ascii [] are i = omega arith
 plain_ascii (c ∷ octets) are zero = below-plain_octet c (and_parts (is_plain c) (list_all is_plain octets) are).0
 plain_ascii (c ∷ octets) are (suc i) = plain_ascii octets (and_parts (is_plain c) (list_all is_plain octets) are).1 i
 
-pub dohpath_again : (octets : List ℕ) → list_all is_plain octets ≡ true → length octets < 65536 → IsTextOf (value_printed (DohPath octets)) (DohPath octets)
+pub dohpath_again : (octets : List ℕ) → list_all is_plain octets ≡ true → length octets < 65536 → IsValueText (value_printed (DohPath octets)) (DohPath octets)
 dohpath_again octets are few =
     let utf8 : is_utf8 octets ≡ true = is_utf8-from_IsUtf8 octets (IsUtf8-from_ascii octets (plain_ascii octets are)) in
-    subst (λ b. IsTextOf (with_text (codes "dohpath") (cond b octets (printed_octets octets))) (DohPath octets)) (sym utf8)
+    subst (λ b. IsValueText (with_text (codes "dohpath") (cond b octets (printed_octets octets))) (DohPath octets)) (sym utf8)
     (with_text_again (codes "dohpath") octets octets (DohPath octets) (omega arith) refl (bare-plain octets (plain_text octets are))
     (ap (λ b. cond b (Ok octets) (Err BadUtf8) >>= λ template. short_value (DohPath template)) utf8 ∙ short_again (DohPath octets) few))
 
@@ -132,7 +132,7 @@ abbrev IsAddress : ℕ → List ℕ → Type 0
 IsAddress len item = (length item ≡ len) × AreOctets item
 
 pub ipv4hint_again : (address : List ℕ) (addresses : List (List ℕ)) → Each (λ item. length item ≡ 4) (address ∷ addresses) → AreOctets (concat (address ∷ addresses))
-    → length (concat (address ∷ addresses)) < 65536 → IsTextOf (value_printed (Ipv4Hint (address ∷ addresses))) (Ipv4Hint (address ∷ addresses))
+    → length (concat (address ∷ addresses)) < 65536 → IsValueText (value_printed (Ipv4Hint (address ∷ addresses))) (Ipv4Hint (address ∷ addresses))
 ipv4hint_again address addresses four are few =
     let each = each_octets (λ item. length item ≡ 4) (address ∷ addresses) four are in
     let texts = Each-map (IsAddress 4) (λ item. IsItemText (ipv4_text item)) (address ∷ addresses) (λ item is. item-ipv4 item is.0 is.1) each in
@@ -141,7 +141,7 @@ ipv4hint_again address addresses four are few =
     (list_again (address_item ipv4_of) ipv4_text Ipv4Hint address addresses texts (addresses_back ipv4_of ipv4_text [] (address ∷ addresses) texts read) few)
 
 pub ipv6hint_again : (address : List ℕ) (addresses : List (List ℕ)) → Each (λ item. length item ≡ 16) (address ∷ addresses) → AreOctets (concat (address ∷ addresses))
-    → length (concat (address ∷ addresses)) < 65536 → IsTextOf (value_printed (Ipv6Hint (address ∷ addresses))) (Ipv6Hint (address ∷ addresses))
+    → length (concat (address ∷ addresses)) < 65536 → IsValueText (value_printed (Ipv6Hint (address ∷ addresses))) (Ipv6Hint (address ∷ addresses))
 ipv6hint_again address addresses sixteen are few =
     let each = each_octets (λ item. length item ≡ 16) (address ∷ addresses) sixteen are in
     let texts = Each-map (IsAddress 16) (λ item. IsItemText (ipv6_text item)) (address ∷ addresses) (λ item is. item-ipv6 item is.0 is.1) each in
@@ -166,7 +166,7 @@ group_again before n small new =
     ∙ new_again before n new
 
 pub groups_again : (group : ℕ) (groups : List ℕ) → Each (λ n. n < 65536) (group ∷ groups) → are_distinct (group ∷ groups) ≡ true
-    → length (encode (TlsSupportedGroups (group ∷ groups))) < 65536 → IsTextOf (value_printed (TlsSupportedGroups (group ∷ groups))) (TlsSupportedGroups (group ∷ groups))
+    → length (encode (TlsSupportedGroups (group ∷ groups))) < 65536 → IsValueText (value_printed (TlsSupportedGroups (group ∷ groups))) (TlsSupportedGroups (group ∷ groups))
 groups_again group groups small distinct few =
     let texts = Each-map (λ n. n < 65536) (λ n. IsItemText (decimal n)) (group ∷ groups) (λ n lt. item-decimal n (omega arith)) small in
     items_again (codes "tls-supported-groups") decimal decimal group groups (TlsSupportedGroups (group ∷ groups)) refl (bare-items decimal (group ∷ groups) texts)
@@ -223,7 +223,7 @@ insert_first n (key ∷ keys) ascends =
     ap (λ b. cond b (n ∷ key ∷ keys) (key ∷ insert_ascending n keys)) (ascends_first n key parts.0)
 
 -- keys that ascend stay in their order
-ascending_again : (least : ℕ) (keys : List ℕ) → ascends_above least keys ≡ true → ascending keys ≡ keys
+ascending_again : (least : ℕ) (keys : List ℕ) → ascends_above least keys ≡ true → in_ascending_order keys ≡ keys
 ascending_again least [] ascends = refl
 ascending_again least (key ∷ keys) ascends =
     let parts = and_parts (nat_lt least key) (ascends_above key keys) ascends in
@@ -239,13 +239,13 @@ listed_keys least (key ∷ keys) small ascends =
     ((listed_above least key parts.0, small.0), listed_keys key keys small.1 parts.1)
 
 pub mandatory_value_again : (key : ℕ) (keys : List ℕ) → Each (λ key. key < 65536) (key ∷ keys) → ascends_above 0 (key ∷ keys) ≡ true
-    → length (encode (Mandatory (key ∷ keys))) < 65536 → IsTextOf (value_printed (Mandatory (key ∷ keys))) (Mandatory (key ∷ keys))
+    → length (encode (Mandatory (key ∷ keys))) < 65536 → IsValueText (value_printed (Mandatory (key ∷ keys))) (Mandatory (key ∷ keys))
 mandatory_value_again key keys small ascends few =
-    let in_order : ascending (key ∷ keys) ≡ key ∷ keys = ascending_again 0 (key ∷ keys) ascends in
+    let in_order : in_ascending_order (key ∷ keys) ≡ key ∷ keys = ascending_again 0 (key ∷ keys) ascends in
     let listed = listed_keys 0 (key ∷ keys) small ascends in
     let texts = Each-map IsListedKey (λ n. IsItemText (key_name n)) (key ∷ keys) (λ n is. item-key_name n is.1) listed in
     items_again (codes "mandatory") key_name key_name key keys (Mandatory (key ∷ keys)) refl (bare-items key_name (key ∷ keys) texts)
-    (list_again mandatory_item key_name (λ (ns : List ℕ). Mandatory (ascending ns)) key keys texts
+    (list_again mandatory_item key_name (λ (ns : List ℕ). Mandatory (in_ascending_order ns)) key keys texts
     (numbers_back IsListedKey mandatory_item key_name mandatory_again [] (key ∷ keys)
     (distinct-all_new IsListedKey (key ∷ keys) listed (ascends_distinct 0 (key ∷ keys) ascends)))
     (subst (λ (ns : List ℕ). length (encode (Mandatory ns)) < 65536) (sym in_order) few)

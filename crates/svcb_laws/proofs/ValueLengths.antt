@@ -8,7 +8,7 @@ use Rattle.name_spec.specs.Addresses.{ipv4_text, ipv6_text}
 use Rattle.name_spec.specs.AddressLaws.{AreOctets}
 use Rattle.svcb_spec.specs.Params.{Pair, Pairs}
 use Rattle.svcb_spec.specs.ReadingValues.{value_in}
-use Rattle.svcb_spec.specs.Values.{Value, Mandatory, Alpn, NoDefaultAlpn, Port, Ipv4Hint, Ech, Ipv6Hint, DohPath, Ohttp, TlsSupportedGroups, Unknown, encode, numbers_wire, protocols_wire, Each, HasItems}
+use Rattle.svcb_spec.specs.Values.{Value, Mandatory, Alpn, NoDefaultAlpn, Port, Ipv4Hint, Ech, Ipv6Hint, DohPath, Ohttp, TlsSupportedGroups, Unknown, encode, numbers16_wire, protocols_wire, Each, HasItems}
 use Rattle.svcb_spec.proofs.ValueLaws.{IsIn, values_in_octets}
 use Rattle.text_spec.specs.Encodings.{base64_text}
 use Rattle.svcb_spec.specs.ListTexts.{escaped_item}
@@ -21,14 +21,14 @@ use Rattle.svcb_laws.proofs.PieceLengths.{octets-length, item-length, number-len
 
 -- ---- items, each with a separator
 
-keys-length : (keys : List ℕ) → Each (λ key. key < 65536) keys → room (map key_name keys) ≤ 11 * length (numbers_wire keys)
+keys-length : (keys : List ℕ) → Each (λ key. key < 65536) keys → room (map key_name keys) ≤ 11 * length (numbers16_wire keys)
 keys-length [] small = omega arith
 keys-length (key ∷ keys) small =
     let first = key-length key small.0 in
     let others = keys-length keys small.1 in
     omega arith
 
-groups-length : (groups : List ℕ) → Each (λ group. group < 65536) groups → room (map decimal groups) ≤ 11 * length (numbers_wire groups)
+groups-length : (groups : List ℕ) → Each (λ group. group < 65536) groups → room (map decimal groups) ≤ 11 * length (numbers16_wire groups)
 groups-length [] small = omega arith
 groups-length (group ∷ groups) small =
     let first = number-length group small.0 in

@@ -9,11 +9,11 @@ use Rattle.text_spec.specs.Layouts.{laid_out_text}
 use Rattle.text_spec.specs.Pieces.{HasTokens}
 use Rattle.text_spec.specs.Scanning.{done}
 use Rattle.svcb_laws.specs.ParamTextLaws.{HaveOctets}
-use Rattle.svcb_spec.specs.DataTexts.{data_printed, svcb_data}
+use Rattle.svcb_spec.specs.DataTexts.{svcb_printed, svcb_data}
 use Rattle.svcb_spec.specs.DataDocuments.{svcb_document}
 
 -- a record, and what its labels and values are made of are octets
-pub record IsData (found : Record) : Type 0 where
+pub record IsRecordOfOctets (found : Record) : Type 0 where
   pub is_record : IsRecord found
   pub labels : AreOctets (flat_map (λ label. label) found.labels)
   pub values : HaveOctets found.pairs
@@ -21,7 +21,7 @@ pub record IsData (found : Record) : Type 0 where
 -- record data that was read of octets is such a record
 abbrev pub ReadIsData : Type 0
 ReadIsData = (message : List ℕ) (start len : ℕ) (found : Record) → AreOctets message → start + len ≤ length message
-    → read message start len ≡ Ok found → IsData found
+    → read message start len ≡ Ok found → IsRecordOfOctets found
 
 -- behind any tokens, these are scanned as exactly this record, and all of them are taken
 abbrev pub AreTokensOf : List (List Symbol) → Record → Type 0
@@ -29,22 +29,22 @@ AreTokensOf tokens found = (front : List (List Symbol))
     → svcb_data (front ++ tokens) (length front) ≡ done found (length front + length tokens)
 
 -- the text has tokens, and those that it has are scanned as exactly this record
-pub record IsTextOf (text : List ℕ) (found : Record) : Type 0 where
+pub record IsRecordText (text : List ℕ) (found : Record) : Type 0 where
   pub some : (tokens : List (List Symbol)) × HasTokens text tokens
   pub scanned : (tokens : List (List Symbol)) → HasTokens text tokens → AreTokensOf tokens found
 
 -- the printed text of data is read back as that data
 abbrev pub DataTextReadBack : Type 0
-DataTextReadBack = (found : Record) → IsData found → IsTextOf (data_printed found) found
+DataTextReadBack = (found : Record) → IsRecordOfOctets found → IsRecordText (svcb_printed found) found
 
 -- and so is its line
 abbrev pub DataLineReadBack : Type 0
-DataLineReadBack = (found : Record) → IsData found → IsTextOf (data_printed found ++ 10 ∷ []) found
+DataLineReadBack = (found : Record) → IsRecordOfOctets found → IsRecordText (svcb_printed found ++ 10 ∷ []) found
 
 -- and its text in each layout
 abbrev pub DataLayoutReadBack : Type 0
-DataLayoutReadBack = (kind : DisplayKind) (found : Record) → IsData found
-    → IsTextOf (laid_out_text kind (svcb_document found)) found
+DataLayoutReadBack = (kind : DisplayKind) (found : Record) → IsRecordOfOctets found
+    → IsRecordText (laid_out_text kind (svcb_document found)) found
 
 -- a text and its line have the same tokens
 abbrev pub LineHasTokens : Type 0

@@ -11,24 +11,24 @@ use Rattle.text_spec.specs.declared.lexeme.Symbol.{Symbol}
 use Rattle.text_spec.specs.Pieces.{HasTokens, IsTokenText}
 use Rattle.text_spec.specs.Scanning.{octets_of, done}
 use Rattle.svcb_spec.specs.ListTexts.{◌>>=◌, comma_items, escaped_item}
-use Rattle.svcb_spec.specs.ValueTexts.{protocol_item, protocols_step, protocols_of, ascending, value_of_text}
+use Rattle.svcb_spec.specs.ValueTexts.{protocol_item, protocols_step, protocols_of, in_ascending_order, value_of_text}
 use Rattle.svcb_spec.specs.ParamTexts.{spells, params}
 use Rattle.svcb_spec.specs.PrintedValues.{value_printed, opaque_text}
 use Rattle.svcb_spec.specs.PrintedParams.{are_distinct, has_own_text, pair_printed, pair_texts, params_printed}
 
 -- the text is wholly that of a token whose octets spell the value
-abbrev pub IsTextOf : List ℕ → Value → Type 0
-IsTextOf text value = (token : List Symbol) × IsTokenText text token × (spells (octets_of token) ≡ Ok value)
+abbrev pub IsValueText : List ℕ → Value → Type 0
+IsValueText text value = (token : List Symbol) × IsTokenText text token × (spells (octets_of token) ≡ Ok value)
 
 -- the text of any octets under a key spells the value without a type
 abbrev pub OpaqueReadBack : Type 0
 OpaqueReadBack = (key : ℕ) (octets : List ℕ) → key < 65536 → AreOctets octets → length octets < 65536
-    → IsTextOf (opaque_text key octets) (Unknown key octets)
+    → IsValueText (opaque_text key octets) (Unknown key octets)
 
 -- the text of a value spells that value, where it has a text of its own among some pairs
 abbrev pub TypedReadBack : Type 0
 TypedReadBack = (pairs : Pairs) (value : Value) → IsValue value → AreOctets (encode value) → has_own_text pairs value ≡ true
-    → IsTextOf (value_printed value) value
+    → IsValueText (value_printed value) value
 
 -- the octets of the pairs are octets
 abbrev pub HaveOctets : Pairs → Type 0
@@ -37,19 +37,19 @@ HaveOctets pairs = Each (λ pair. AreOctets pair.1) pairs
 -- the text of a pair of a map spells a value of its key and its octets
 abbrev pub PairReadBack : Type 0
 PairReadBack = (pairs : Pairs) (pair : Pair) → IsMap pairs → HaveOctets pairs → Contains pairs pair
-    → (value : Value) × IsTextOf (pair_printed pairs pair) value × (key_of value ≡ pair.0) × (encode value ≡ pair.1)
+    → (value : Value) × IsValueText (pair_printed pairs pair) value × (key_of value ≡ pair.0) × (encode value ≡ pair.1)
 
 -- each text is wholly that of its token
-abbrev pub AreTokenTexts : List (List ℕ) → List (List Symbol) → Type 0
-AreTokenTexts [] [] = Unit {0}
-AreTokenTexts [] (token ∷ tokens) = ⊥
-AreTokenTexts (text ∷ texts) [] = ⊥
-AreTokenTexts (text ∷ texts) (token ∷ tokens) = IsTokenText text token × AreTokenTexts texts tokens
+abbrev pub AreTextsOfTokens : List (List ℕ) → List (List Symbol) → Type 0
+AreTextsOfTokens [] [] = Unit {0}
+AreTextsOfTokens [] (token ∷ tokens) = ⊥
+AreTextsOfTokens (text ∷ texts) [] = ⊥
+AreTextsOfTokens (text ∷ texts) (token ∷ tokens) = IsTokenText text token × AreTextsOfTokens texts tokens
 
 -- the tokens of the texts of a map's pairs, behind any tokens, spell exactly that map
 abbrev pub ParamsReadBack : Type 0
 ParamsReadBack = (pairs : Pairs) → IsMap pairs → HaveOctets pairs → (front tokens : List (List Symbol))
-    → AreTokenTexts (pair_texts pairs) tokens → params (front ++ tokens) (length front) ≡ done pairs (length front + length tokens)
+    → AreTextsOfTokens (pair_texts pairs) tokens → params (front ++ tokens) (length front) ≡ done pairs (length front + length tokens)
 
 -- the text of a map has tokens, and they spell exactly that map
 abbrev pub ParamsTextReadBack : Type 0
@@ -98,7 +98,7 @@ IsShort made value = (value ≡ made) × (length (encode made) < 65536)
 abbrev pub MandatoryExact : Type 0
 MandatoryExact = (text : List ℕ) (value : Value) → (value_of_text 0 text ≡ Ok value)
     ↔ ((keys : List ℕ) × IsListOf (spelled_key parameter_keys) text keys × Each (λ key. 0 < key) keys × (are_distinct keys ≡ true)
-    × IsShort (Mandatory (ascending keys)) value)
+    × IsShort (Mandatory (in_ascending_order keys)) value)
 
 -- a text spells addresses under a key exactly where its items do
 abbrev pub HintExact : ℕ → (List ℕ → Option (List ℕ)) → (List (List ℕ) → Value) → Type 0

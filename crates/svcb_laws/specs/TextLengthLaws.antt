@@ -4,8 +4,8 @@ use Rattle.svcb_spec.specs.Params.{Pairs, IsMap, wire}
 use Rattle.svcb_spec.specs.Records.{Record, rdata}
 use Rattle.svcb_spec.specs.PrintedParams.{params_printed}
 use Rattle.svcb_laws.specs.ParamTextLaws.{HaveOctets}
-use Rattle.svcb_spec.specs.DataTexts.{data_printed}
-use Rattle.svcb_laws.specs.DataTextLaws.{IsData}
+use Rattle.svcb_spec.specs.DataTexts.{svcb_printed}
+use Rattle.svcb_laws.specs.DataTextLaws.{IsRecordOfOctets}
 
 -- the text of a map has at most 11 octets for each octet of its parameters
 abbrev pub ParamsTextByOctets : Type 0
@@ -14,9 +14,9 @@ ParamsTextByOctets = (pairs : Pairs) → IsMap pairs → HaveOctets pairs
 
 -- the text of data has at most 11 octets for each octet of the data
 abbrev pub DataTextByOctets : Type 0
-DataTextByOctets = (found : Record) → IsData found
-    → length (data_printed found) ≤ 11 * length (rdata found.priority found.labels found.pairs)
+DataTextByOctets = (found : Record) → IsRecordOfOctets found
+    → length (svcb_printed found) ≤ 11 * length (rdata found.priority found.labels found.pairs)
 
 -- so the line of the text, at most 720,886 octets, is shorter than 16,777,216
 abbrev pub DataLineFits : Type 0
-DataLineFits = (found : Record) → IsData found → length (data_printed found ++ 10 ∷ []) < 16777216
+DataLineFits = (found : Record) → IsRecordOfOctets found → length (svcb_printed found ++ 10 ∷ []) < 16777216

@@ -6,7 +6,7 @@ use Rattle.std.proofs.Math.Nat.{mul-mod_left, le-div_iff_mul-le}
 use Rattle.std.proofs.lemmas.List.Concat.{concat_is, flat_map-append}
 use Rattle.std.proofs.lemmas.Bool.Decides.{nat_tests}
 use Rattle.name_spec.specs.Octets.{be2}
-use Rattle.svcb_spec.specs.Values.{Each, numbers_wire, protocols_wire}
+use Rattle.svcb_spec.specs.Values.{Each, numbers16_wire, protocols_wire}
 use Rattle.svcb_spec.specs.ReadingValues.{parts, numbers, protocols, are_whole, parts_fault, groups_fault}
 use Rattle.svcb_spec.proofs.ItemLaws.{parts-concat, numbers-numbers_wire, length-numbers_wire, protocols-protocols_wire, protocols_wire-whole}
 use Rattle.svcb_list.proofs.PartLemmas.{whole_is, parts_encoded}
@@ -48,8 +48,8 @@ groups_sound octets ns is not_empty whole few =
 pub numbers_read : (octets ns : List ℕ) → octets ≡ flat_map be2 ns → numbers octets ≡ ns
 numbers_read octets ns is = ap numbers is ∙ numbers-numbers_wire ns
 
-pub numbers_written : (octets ns : List ℕ) → octets ≡ flat_map be2 ns → numbers_wire (numbers octets) ≡ octets
-numbers_written octets ns is = ap numbers_wire (numbers_read octets ns is) ∙ sym is
+pub numbers_written : (octets ns : List ℕ) → octets ≡ flat_map be2 ns → numbers16_wire (numbers octets) ≡ octets
+numbers_written octets ns is = ap numbers16_wire (numbers_read octets ns is) ∙ sym is
 
 -- and octets of addresses as these addresses
 pub addresses_read : (len : ℕ) (octets : List ℕ) (addresses : List (List ℕ)) → AreItems (λ address. address) len addresses octets → 0 < len

@@ -3,7 +3,7 @@ use Rattle.std.proofs.Common.{Fits, w8, ◌≡◌, ℕ, ◌%◌, ◌<◌, ◌≤
 use Rattle.std.specs.Prelude.{◌==◌, slice_index_or}
 use Rattle.std.proofs.lemmas.Bool.Decides.{nat_tests}
 use Rattle.svcb_spec.specs.ReadingValues.{parts, numbers}
-use Rattle.svcb_spec.specs.Values.{numbers_wire}
+use Rattle.svcb_spec.specs.Values.{numbers16_wire}
 use Rattle.svcb_spec.proofs.ItemLaws.{whole_parts, parts-first, are_octets, numbers_wire-numbers, concat-parts}
 use Rattle.std.specs.List.{concat}
 
@@ -30,7 +30,7 @@ first_part = parts-first
 pub ruleset first_rules = (part_fits, first_part, parts_left)
 
 -- the octets of a slice, which are its numbers' octets
-pub numbers_encoded : (octets : List ℕ) → ((i : ℕ) → Fits w8 (slice_index_or octets i 0)) → (length octets % 2 == 0) ≡ true → numbers_wire (numbers octets) ≡ octets
+pub numbers_encoded : (octets : List ℕ) → ((i : ℕ) → Fits w8 (slice_index_or octets i 0)) → (length octets % 2 == 0) ≡ true → numbers16_wire (numbers octets) ≡ octets
 numbers_encoded octets small whole = numbers_wire-numbers octets (are_octets octets (λ i. omega (arith, small i))) (is_whole (length octets) 2 whole)
 
 -- parts, joined, are the octets

@@ -6,17 +6,17 @@ use Rattle.svcb_list.specs.declared.errors.BuildAlpnError.{BuildAlpnError}
 use Rattle.svcb_list.specs.declared.errors.BuildAlpnError.TheVariants.{InvalidProtocol, LongSvcParam, ShortBuf, NoMemory}
 
 -- a protocol has 1 to 255 octets (RFC 7301, section 3.1)
-pub record IsProtocol (len : ℕ) : Type 0 where
+pub record IsProtocolLength (len : ℕ) : Type 0 where
   pub not_empty : 0 < len
   pub fits : len ≤ 255
 
 -- A push of a protocol of `len` octets onto a value of `old` octets: done where the protocol is one and the value stays
 -- within 65,535 octets, unless memory is wanting. There is no other error.
 abbrev pub IsPushed : {X : Type 0} → Result X BuildAlpnError → ℕ → ℕ → Type 0
-IsPushed (Ok done) old len = IsProtocol len × (old + 1 + len ≤ 65535)
-IsPushed (Err InvalidProtocol) old len = IsProtocol len → ⊥
-IsPushed (Err LongSvcParam) old len = IsProtocol len × (65535 < old + 1 + len)
-IsPushed (Err NoMemory) old len = IsProtocol len × (old + 1 + len ≤ 65535)
+IsPushed (Ok done) old len = IsProtocolLength len × (old + 1 + len ≤ 65535)
+IsPushed (Err InvalidProtocol) old len = IsProtocolLength len → ⊥
+IsPushed (Err LongSvcParam) old len = IsProtocolLength len × (65535 < old + 1 + len)
+IsPushed (Err NoMemory) old len = IsProtocolLength len × (old + 1 + len ≤ 65535)
 IsPushed (Err ShortBuf) old len = ⊥
 
 -- octets are whole protocols, each behind its length, and at most 65,535

@@ -2,7 +2,7 @@
 
 ghost use Rattle.std.specs.Prelude.{◌≡◌, ◌<◌, ◌==◌, length, IfOk, ⊤};
 ghost use Rattle.wire_base.specs.Faults.{Gives, GivesCopy};
-ghost use Rattle.wire_base.specs.Input.{left};
+ghost use Rattle.wire_base.specs.Input.{octets_left};
 ghost use Rattle.wire_base.specs.Moving.{TakesAll};
 ghost use Rattle.svcb_spec.specs.Values as values;
 ghost use Rattle.svcb_spec.specs.Values.{encode, IsValue};
@@ -80,13 +80,13 @@ impl<T: ListType> ItemList<T> {
     /// The value that all octets before the end of the data are. Refused by their first fault, as `Form` or
     /// `ShortInput`, and else only for want of memory; the parser then stays.
     pub fn parse(alloc: Global, parser: &mut Parser<'_>) -> Result<ItemList<T>, ParseError>
-        ensures answer { GivesCopy (taking_all (left parser.old)) result
-            (whole_value T.fault T.value (left parser.old)) }
-        ensures value { IfOk result (λ list. list ≡ T.value (left parser.old)) }
-        ensures encodes { IfOk result (λ list. encode list ≡ left parser.old) }
+        ensures answer { GivesCopy (taking_all (octets_left parser.old)) result
+            (whole_value T.fault T.value (octets_left parser.old)) }
+        ensures value { IfOk result (λ list. list ≡ T.value (octets_left parser.old)) }
+        ensures encodes { IfOk result (λ list. encode list ≡ octets_left parser.old) }
         ensures takes { TakesAll parser.old parser.new result }
     {
-        let view: ItemListRef<'_, T> = ItemListRef::from_slice(parser.peek_all())?;
+        let view: ItemListRef<'_, T> = ItemListRef::from_slice(parser.remaining_octets())?;
         let list = view.to_owned_data(alloc)?;
         parser.advance_to_end();
         Ok(list)
@@ -153,12 +153,12 @@ impl<'a, T: ListType> ItemListRef<'a, T> {
     /// A view of the value that all octets before the end of the data are. Refused by their first fault, as `Form` or
     /// `ShortInput`, and never for want of memory; the parser then stays.
     pub fn parse(parser: &mut Parser<'a>) -> Result<ItemListRef<'a, T>, ParseError>
-        ensures answer { Gives (λ view. taking_all (left parser.old) (T.value view.slice.now))
-            result (whole_value T.fault T.value (left parser.old)) }
-        ensures octets { IfOk result (λ view. view.slice.now ≡ left parser.old) }
+        ensures answer { Gives (λ view. taking_all (octets_left parser.old) (T.value view.slice.now))
+            result (whole_value T.fault T.value (octets_left parser.old)) }
+        ensures octets { IfOk result (λ view. view.slice.now ≡ octets_left parser.old) }
         ensures takes { TakesAll parser.old parser.new result }
     {
-        let view = ItemListRef::from_slice(parser.peek_all())?;
+        let view = ItemListRef::from_slice(parser.remaining_octets())?;
         parser.advance_to_end();
         Ok(view)
     }
@@ -266,7 +266,7 @@ impl<'a, T: ListType> ParseSvcParamValue<'a> for ItemListRef<'a, T> {
         if key != T::key() {
             return Ok(None);
         }
-        let view = ItemListRef::from_slice(parser.peek_all())?;
+        let view = ItemListRef::from_slice(parser.remaining_octets())?;
         parser.advance_to_end();
         Ok(Some(view))
     }

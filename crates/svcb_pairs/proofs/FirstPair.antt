@@ -7,7 +7,7 @@ use Rattle.name_spec.specs.Octets.{Short, be2, number_at}
 use Rattle.svcb_spec.specs.Params.{Pair, Pairs, pairs_wire, IsMap}
 use Rattle.svcb_spec.proofs.WireLaws.{Ascends-lower}
 use Rattle.svcb_spec.proofs.PairsBack.{drop-behind, slice_range-front, number_at-be2}
-use Rattle.svcb_value.specs.Parameters.{take_param, Begins}
+use Rattle.svcb_value.specs.Parameters.{take_param, BeginsParameter}
 use Rattle.svcb_pairs.specs.Parameters.{pairs_in, IsParameters, IsFirstPair}
 use Rattle.svcb_pairs.proofs.Reading.{octets_are_wire, pairs_in-back, wire_parameters}
 
@@ -45,7 +45,7 @@ record SplitsOff (octets : List ℕ) (pairs : Pairs) (number : ℕ) (held behind
   rest : IsParameters behind
 
 module _ (octets : List ℕ) (number : ℕ) (held behind : List ℕ) where
-  splits_off : (pairs : Pairs) → octets ≡ pairs_wire pairs → IsMap pairs → Begins octets number held behind → SplitsOff octets pairs number held behind
+  splits_off : (pairs : Pairs) → octets ≡ pairs_wire pairs → IsMap pairs → BeginsParameter octets number held behind → SplitsOff octets pairs number held behind
   splits_off [] is is_map begins = absurd (omega (arith, ap length is, begins.within))
   splits_off (pair ∷ pairs) is is_map begins =
       let first = stands_first octets pair pairs is in
@@ -61,7 +61,7 @@ module _ (octets : List ℕ) (number : ℕ) (held behind : List ℕ) where
         rest = wire_parameters behind pairs rest up;
       }
 
-  module _ (are : IsParameters octets) (begins : Begins octets number held behind) where
+  module _ (are : IsParameters octets) (begins : BeginsParameter octets number held behind) where
     known : SplitsOff octets (pairs_in octets) number held behind
     known = splits_off (pairs_in octets) (octets_are_wire octets are) are.is_map begins
 

@@ -9,9 +9,9 @@ use Rattle.svcb_pairs.specs.BuilderState.{BuilderState, IsBuilderState}
 use Rattle.svcb_pairs.specs.Pushing.{Pushes, IsPushAnswer}
 use Rattle.svcb_pairs.specs.declared.errors.PushError.{PushError}
 use Rattle.svcb_pairs.specs.declared.span.Span.{Span}
-use Rattle.svcb_pairs.specs.Spans.{Spans, spanned_pairs, AreInside, AreSpans}
+use Rattle.svcb_pairs.specs.Spans.{KeyedSpans, limited_pairs, AreInside, AreSpans}
 use Rattle.svcb_pairs.proofs.Builds.{is_grown}
-use Rattle.svcb_pairs.proofs.SpanLemmas.{spanned_pairs-append, octets_of_span-new, spanned_pairs-insert, inside-insert, inside-more}
+use Rattle.svcb_pairs.proofs.SpanLemmas.{limited_pairs-append, octets_of_span-new, limited_pairs-insert, inside-insert, inside-more}
 
 -- a push was accepted
 abbrev pub IsPushed : BuilderState → BuilderState → ℕ → List ℕ → Type 0
@@ -29,17 +29,17 @@ pair_pushed pairs pairs' len grown limit key value builder absent put counted wi
   err = tt;
 }
 
-module _ (read own own' value : List ℕ) (spans spans' : Spans) (key start len : ℕ) (inside : AreInside (length read) (length read + length own) spans)
+module _ (read own own' value : List ℕ) (spans spans' : KeyedSpans) (key start len : ℕ) (inside : AreInside (length read) (length read + length own) spans)
     (from : start ≡ length read + length own) (long : len ≡ length value) (more : own' ≡ own ++ value)
     (put : spans' ≡ insert_entry nat_cmp spans key (record { start = start; len = len })) where
   abbrev span : Span
   span = record { start = start; len = len }
 
   abbrev pairs : Pairs
-  pairs = spanned_pairs (read ++ own) spans
+  pairs = limited_pairs (read ++ own) spans
 
   abbrev pairs' : Pairs
-  pairs' = spanned_pairs (read ++ own') spans'
+  pairs' = limited_pairs (read ++ own') spans'
 
   as_long : length read + length own ≡ length (read ++ own)
   as_long = sym (length-append read own)
@@ -50,12 +50,12 @@ module _ (read own own' value : List ℕ) (spans spans' : Spans) (key start len 
   -- the pair is put under the key
   spanned_put : pairs' ≡ insert_entry nat_cmp pairs key value
   spanned_put =
-      ap (λ octets. spanned_pairs (read ++ octets) spans') more
-      ∙ ap (λ octets. spanned_pairs octets spans') (sym (append_assoc read own value))
-      ∙ ap (spanned_pairs ((read ++ own) ++ value)) put
-      ∙ spanned_pairs-insert ((read ++ own) ++ value) spans key span
-      ∙ ap (λ octets. insert_entry nat_cmp (spanned_pairs ((read ++ own) ++ value) spans) key octets) (octets_of_span-new (read ++ own) value span (from ∙ as_long) long)
-      ∙ ap (λ pairs. insert_entry nat_cmp pairs key value) (spanned_pairs-append (length read) (read ++ own) value spans (subst (λ n. AreInside (length read) n spans) as_long inside))
+      ap (λ octets. limited_pairs (read ++ octets) spans') more
+      ∙ ap (λ octets. limited_pairs octets spans') (sym (append_assoc read own value))
+      ∙ ap (limited_pairs ((read ++ own) ++ value)) put
+      ∙ limited_pairs-insert ((read ++ own) ++ value) spans key span
+      ∙ ap (λ octets. insert_entry nat_cmp (limited_pairs ((read ++ own) ++ value) spans) key octets) (octets_of_span-new (read ++ own) value span (from ∙ as_long) long)
+      ∙ ap (λ pairs. insert_entry nat_cmp pairs key value) (limited_pairs-append (length read) (read ++ own) value spans (subst (λ n. AreInside (length read) n spans) as_long inside))
 
   inside_put : AreInside (length read) (length read + length own') spans'
   inside_put =

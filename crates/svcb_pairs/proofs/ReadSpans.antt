@@ -19,17 +19,17 @@ use Rattle.svcb_spec.proofs.PairsBack.{drop-behind, slice_range-front}
 use Rattle.svcb_pairs.specs.Parameters.{pairs_in, IsParameters}
 use Rattle.svcb_pairs.specs.BuilderState.{IsBuilderState}
 use Rattle.svcb_pairs.specs.declared.span.Span.{Span}
-use Rattle.svcb_pairs.specs.Spans.{Spans, octets_of_span, spanned_pairs, IsInside, AreInside, AreSpans}
+use Rattle.svcb_pairs.specs.Spans.{KeyedSpans, octets_of_span, limited_pairs, IsInside, AreInside, AreSpans}
 use Rattle.svcb_pairs.proofs.Reading.{octets_are_wire}
 
 -- ---- one span behind the other
 
-spanned_pairs-behind : (octets : List ℕ) (spans : Spans) (key : ℕ) (span : Span)
-    → spanned_pairs octets (spans ++ (key, span) ∷ []) ≡ spanned_pairs octets spans ++ (key, octets_of_span octets span) ∷ []
-spanned_pairs-behind octets [] key span = refl
-spanned_pairs-behind octets (entry ∷ spans) key span = ap (λ pairs. (entry.0, octets_of_span octets entry.1) ∷ pairs) (spanned_pairs-behind octets spans key span)
+limited_pairs-behind : (octets : List ℕ) (spans : KeyedSpans) (key : ℕ) (span : Span)
+    → limited_pairs octets (spans ++ (key, span) ∷ []) ≡ limited_pairs octets spans ++ (key, octets_of_span octets span) ∷ []
+limited_pairs-behind octets [] key span = refl
+limited_pairs-behind octets (entry ∷ spans) key span = ap (λ pairs. (entry.0, octets_of_span octets entry.1) ∷ pairs) (limited_pairs-behind octets spans key span)
 
-inside-behind : (read len : ℕ) (spans : Spans) (key : ℕ) (span : Span) → IsInside read len span → AreInside read len spans → AreInside read len (spans ++ (key, span) ∷ [])
+inside-behind : (read len : ℕ) (spans : KeyedSpans) (key : ℕ) (span : Span) → IsInside read len span → AreInside read len spans → AreInside read len (spans ++ (key, span) ∷ [])
 inside-behind read len [] key span is inside = (is, tt)
 inside-behind read len (entry ∷ spans) key span is inside = (inside.0, inside-behind read len spans key span is inside.1)
 
@@ -54,7 +54,7 @@ module _ (octets rest behind value : List ℕ) (key : ℕ) (here : drop (length 
       let place : length octets - length rest + 4 + length value ≡ length octets - length behind = omega (arith, first_long) in
       subst (λ n. drop n octets ≡ behind) place (drop-behind octets value behind (length octets - length rest + 4) at_value)
 
-  module _ (spans spans' : Spans) (start : ℕ) (from : start ≡ length octets - length behind - length value)
+  module _ (spans spans' : KeyedSpans) (start : ℕ) (from : start ≡ length octets - length behind - length value)
       (put : spans' ≡ spans ++ (key, let span : Span = record { start = start; len = length value } in span) ∷ []) where
     abbrev span : Span
     span = record { start = start; len = length value }
@@ -64,12 +64,12 @@ module _ (octets rest behind value : List ℕ) (key : ℕ) (here : drop (length 
         let place : length octets - length rest + 4 ≡ start = omega (arith, first_long) in
         slice_range-front octets value behind start (start + length value) refl (subst (λ n. drop n octets ≡ value ++ behind) place at_value)
 
-    pub next_spanned : spanned_pairs octets spans ++ pairs_in rest ≡ pairs_in octets → spanned_pairs octets spans' ++ pairs_in behind ≡ pairs_in octets
+    pub next_spanned : limited_pairs octets spans ++ pairs_in rest ≡ pairs_in octets → limited_pairs octets spans' ++ pairs_in behind ≡ pairs_in octets
     next_spanned so_far =
-        ap (λ spans. spanned_pairs octets spans ++ pairs_in behind) put
-        ∙ ap (λ pairs. pairs ++ pairs_in behind) (spanned_pairs-behind octets spans key span ∙ ap (λ octets'. spanned_pairs octets spans ++ (key, octets') ∷ []) value_here)
-        ∙ append_assoc (spanned_pairs octets spans) ((key, value) ∷ []) (pairs_in behind)
-        ∙ ap (λ pairs. spanned_pairs octets spans ++ pairs) (sym first)
+        ap (λ spans. limited_pairs octets spans ++ pairs_in behind) put
+        ∙ ap (λ pairs. pairs ++ pairs_in behind) (limited_pairs-behind octets spans key span ∙ ap (λ octets'. limited_pairs octets spans ++ (key, octets') ∷ []) value_here)
+        ∙ append_assoc (limited_pairs octets spans) ((key, value) ∷ []) (pairs_in behind)
+        ∙ ap (λ pairs. limited_pairs octets spans ++ pairs) (sym first)
         ∙ so_far
 
     pub next_inside : AreInside (length octets) (length octets) spans → AreInside (length octets) (length octets) spans'
@@ -78,18 +78,18 @@ module _ (octets rest behind value : List ℕ) (key : ℕ) (here : drop (length 
         (inside-behind (length octets) (length octets) spans key span (record { within = omega (arith, first_long); unbroken = λ before. omega (arith, first_long) }) inside)
 
 -- no pairs are left
-pub all_spanned : (octets rest : List ℕ) (spans : Spans) → pairs_in rest ≡ [] → spanned_pairs octets spans ++ pairs_in rest ≡ pairs_in octets → spanned_pairs octets spans ≡ pairs_in octets
+pub all_spanned : (octets rest : List ℕ) (spans : KeyedSpans) → pairs_in rest ≡ [] → limited_pairs octets spans ++ pairs_in rest ≡ pairs_in octets → limited_pairs octets spans ≡ pairs_in octets
 all_spanned octets rest spans none so_far =
-    sym (append-nil (spanned_pairs octets spans)) ∙ ap (λ pairs. spanned_pairs octets spans ++ pairs) (sym none) ∙ so_far
+    sym (append-nil (limited_pairs octets spans)) ∙ ap (λ pairs. limited_pairs octets spans ++ pairs) (sym none) ∙ so_far
 
 -- ---- the map of spans whose keys ascend
 
-above_all : (octets : List ℕ) (key least : ℕ) (spans : Spans) → key < least → Ascends least (spanned_pairs octets spans) → AllByRecursion (λ k. nat_cmp key k ≡ Less) (keys_of spans)
+above_all : (octets : List ℕ) (key least : ℕ) (spans : KeyedSpans) → key < least → Ascends least (limited_pairs octets spans) → AllByRecursion (λ k. nat_cmp key k ≡ Less) (keys_of spans)
 above_all octets key least [] below up = tt
 above_all octets key least (entry ∷ spans) below up =
     (sym (nat_cmp_is key entry.0 Less (omega (arith, up.0))), above_all octets key (entry.0 + 1) spans (omega (arith, up.0)) up.3)
 
-keys_sorted : (octets : List ℕ) (least : ℕ) (spans : Spans) → Ascends least (spanned_pairs octets spans) → IsStrictlySortedBy nat_cmp (keys_of spans)
+keys_sorted : (octets : List ℕ) (least : ℕ) (spans : KeyedSpans) → Ascends least (limited_pairs octets spans) → IsStrictlySortedBy nat_cmp (keys_of spans)
 unfolding IsStrictlySortedBy
 keys_sorted octets least [] up = tt
 keys_sorted octets least (entry ∷ spans) up = (above_all octets entry.0 (entry.0 + 1) spans (omega arith) up.3, keys_sorted octets (entry.0 + 1) spans up.3)
@@ -99,21 +99,21 @@ both : (a b : Bool) → T a → T b → T (a && b)
 both true b first second = second
 both false b first second = absurd first
 
-is_below : (key : ℕ) (spans : Spans) → AllByRecursion (λ k. nat_cmp key k ≡ Less) (keys_of spans) → T (below_all nat_cmp key spans)
+is_below : (key : ℕ) (spans : KeyedSpans) → AllByRecursion (λ k. nat_cmp key k ≡ Less) (keys_of spans) → T (below_all nat_cmp key spans)
 is_below key [] all = tt
 is_below key (entry ∷ spans) all = rw all.0 (is_below key spans all.1)
 
-are_sorted : (spans : Spans) → IsStrictlySortedBy nat_cmp (keys_of spans) → T (is_sorted nat_cmp spans)
+are_sorted : (spans : KeyedSpans) → IsStrictlySortedBy nat_cmp (keys_of spans) → T (is_sorted nat_cmp spans)
 unfolding IsStrictlySortedBy
 are_sorted [] sorted = tt
 are_sorted (entry ∷ spans) sorted = both (below_all nat_cmp entry.0 spans) (is_sorted nat_cmp spans) (is_below entry.0 spans sorted.0) (are_sorted spans sorted.1)
 
-find-lookup : (key : ℕ) (spans : Spans) → find nat_cmp key spans ≡ lookup (is_at (nat_cmp key)) spans
+find-lookup : (key : ℕ) (spans : KeyedSpans) → find nat_cmp key spans ≡ lookup (is_at (nat_cmp key)) spans
 find-lookup key [] = refl
 find-lookup key (entry ∷ spans) = ap (cond (is_at (nat_cmp key) entry.0) (Some entry.1)) (find-lookup key spans)
 
 -- the map holds the entries that it was made of
-pub made_of : (octets : List ℕ) (entries : Spans) (made : BTreeMap ℕ Span) → IsMap (spanned_pairs octets entries) → IsFromIterResult nat_cmp entries made → made.entries ≡ entries
+pub made_of : (octets : List ℕ) (entries : KeyedSpans) (made : BTreeMap ℕ Span) → IsMap (limited_pairs octets entries) → IsFromIterResult nat_cmp entries made → made.entries ≡ entries
 made_of octets entries made is_map from =
     let sorted : IsStrictlySortedBy nat_cmp (keys_of entries) = keys_sorted octets 0 entries is_map in
     let distinct = IsDistinct-from_sorted nat_cmp (keys_of entries) sorted in
@@ -125,7 +125,7 @@ made_of octets entries made is_map from =
 -- ---- the pairs of parameters
 
 -- the whole run is one buffer's
-inside-buffer : (read len : ℕ) (spans : Spans) → AreInside read len spans → AreInside 0 len spans
+inside-buffer : (read len : ℕ) (spans : KeyedSpans) → AreInside read len spans → AreInside 0 len spans
 inside-buffer read len [] inside = tt
 inside-buffer read len (entry ∷ spans) inside =
     (record { within = inside.0.within; unbroken = λ before. omega arith }, inside-buffer read len spans inside.1)
@@ -135,14 +135,14 @@ read_builder : (octets : List ℕ) (pairs : Pairs) (limit : ℕ) → pairs ≡ p
 read_builder octets pairs limit is are within in_range =
     rw is (record { is_map = are.is_map; len_is = ap length (sym are.wire); within = within; in_range = in_range })
 
-module _ (octets : List ℕ) (spans : Spans) (limit : ℕ) (are : IsParameters octets) (within : length octets ≤ limit) (in_range : limit < 2 ^ 31)
-    (pairs : spanned_pairs octets spans ≡ pairs_in octets) (inside : AreInside (length octets) (length octets) spans) where
+module _ (octets : List ℕ) (spans : KeyedSpans) (limit : ℕ) (are : IsParameters octets) (within : length octets ≤ limit) (in_range : limit < 2 ^ 31)
+    (pairs : limited_pairs octets spans ≡ pairs_in octets) (inside : AreInside (length octets) (length octets) spans) where
   -- the values stand in a copy of the octets
   pub copied_spans : (own : List ℕ) → own ≡ octets → AreSpans [] own spans (length octets) limit
   copied_spans own same =
       rw same
       (record {
-        builder = read_builder octets (spanned_pairs octets spans) limit pairs are within in_range;
+        builder = read_builder octets (limited_pairs octets spans) limit pairs are within in_range;
         inside = subst (λ len. AreInside 0 len spans) (omega arith) (inside-buffer (length octets) (length octets) spans inside);
         fits = omega arith;
       })

@@ -6,4 +6,4 @@ pub mod ParameterLaws
 pub mod BuilderState
 pub mod Pushing
 pub mod Spans
-pub mod SpannedView
+pub mod LimitedPairsView

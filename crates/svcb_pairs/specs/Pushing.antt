@@ -4,7 +4,7 @@ use Rattle.svcb_spec.specs.declared.Reply.{Reply}
 use Rattle.svcb_spec.specs.declared.Reply.TheVariants as replies
 use Rattle.svcb_spec.specs.Params.{value_at, wire}
 use Rattle.svcb_spec.specs.Values.{Value, key_of, encode}
-use Rattle.svcb_spec.specs.Rebuilding.{reply_to, after}
+use Rattle.svcb_spec.specs.Rebuilding.{reply_to, pairs_after}
 use Rattle.svcb_pairs.specs.BuilderState.{BuilderState}
 use Rattle.svcb_pairs.specs.declared.errors.PushError.{PushError}
 use Rattle.svcb_pairs.specs.declared.errors.PushError.TheVariants.{DuplicateKey, ShortBuf, NoMemory}
@@ -15,7 +15,7 @@ reply_of builder key octets = reply_to builder.pairs builder.limit key octets
 
 -- the builder with octets under a key
 abbrev pub with_octets : BuilderState → ℕ → List ℕ → BuilderState
-with_octets builder key octets = record builder { pairs = after replies.Accepted builder.pairs key octets }
+with_octets builder key octets = record builder { pairs = pairs_after replies.Accepted builder.pairs key octets }
 
 -- the builder with a value
 abbrev pub with_value : BuilderState → Value → BuilderState

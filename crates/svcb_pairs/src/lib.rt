@@ -12,7 +12,7 @@ mod params_text;
 mod printed_pair;
 mod scan;
 mod span;
-mod spanned_pairs;
+mod limited_pairs;
 mod spans;
 mod values;
 
@@ -21,4 +21,4 @@ pub use pairs::check;
 pub use params_text::ParamsText;
 pub use scan::scan_params;
 pub use span::Span;
-pub use spanned_pairs::SpannedPairs;
+pub use limited_pairs::LimitedPairs;

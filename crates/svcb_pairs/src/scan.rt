@@ -28,7 +28,7 @@ pub fn scan_params<S: Scanner>(alloc: Global, scanner: &mut S) -> Result<Octets,
 {
     let place = scanner.taken();
     let outcome = scan_left(alloc, scanner);
-    scanner.stay_without_memory(place, outcome)
+    scanner.rewind_on_no_memory(place, outcome)
 }
 
 /// The same, but where memory is wanting tokens may be taken.
@@ -58,7 +58,7 @@ fn scan_next<S: Scanner>(
     let place = scanner.taken();
     let token = scanner.scan_octets(alloc)?;
     let outcome = keep_token(alloc, token.as_slice(), values);
-    scanner.stay_unless_ok(place, outcome)
+    scanner.rewind_unless_ok(place, outcome)
 }
 
 /// Keeps the value that a token's octets spell.

@@ -5,7 +5,7 @@ ghost use Rattle.std.specs.BTreeMap.{IsFromIterResult};
 ghost use Rattle.std.specs.Ordering.{nat_cmp};
 ghost use Rattle.svcb_spec.specs.Params.{wire, IsMap};
 ghost use Rattle.svcb_pairs.specs.Parameters.{pairs_in, IsParameters};
-ghost use Rattle.svcb_pairs.specs.Spans.{octets_of_span, spanned_pairs, IsInside, AreInside};
+ghost use Rattle.svcb_pairs.specs.Spans.{octets_of_span, limited_pairs, IsInside, AreInside};
 
 use crate::span::Span;
 use std::alloc::Global;
@@ -38,7 +38,7 @@ fn map_of(alloc: Global, entries: Vec<(u16, Span)>) -> Result<BTreeMap<u16, Span
 pub(crate) fn spans_of(alloc: Global, octets: &[u8]) -> Result<BTreeMap<u16, Span>, NoMemory>
     requires { IsParameters octets.now }
     ensures pairs { IfOk result
-        (λ spans. spanned_pairs octets.now spans.entries ≡ pairs_in octets.now) }
+        (λ spans. limited_pairs octets.now spans.entries ≡ pairs_in octets.now) }
     ensures inside { IfOk result
         (λ spans. AreInside (length octets.now) (length octets.now) spans.entries) }
 {
@@ -55,14 +55,14 @@ pub(crate) fn spans_of(alloc: Global, octets: &[u8]) -> Result<BTreeMap<u16, Spa
 
 /// Appends the pairs of spans by ascending keys, for which there is room.
 pub(crate) fn put_spans(target: &mut Vec<u8>, read: &[u8], own: &[u8], spans: &BTreeMap<u16, Span>)
-    requires is_map { IsMap (spanned_pairs (read.now ++ own.now) spans.now.entries) }
+    requires is_map { IsMap (limited_pairs (read.now ++ own.now) spans.now.entries) }
     requires inside { AreInside
         (length read.now) (length read.now + length own.now) spans.now.entries }
     requires room { vec_len target.old
-        + length (wire (spanned_pairs (read.now ++ own.now) spans.now.entries))
+        + length (wire (limited_pairs (read.now ++ own.now) spans.now.entries))
         ≤ vec_capacity target.old }
     ensures { target.new.items
-        ≡ target.old.items ++ wire (spanned_pairs (read.now ++ own.now) spans.now.entries) }
+        ≡ target.old.items ++ wire (limited_pairs (read.now ++ own.now) spans.now.entries) }
 {
     for (key, span) in spans {
         put_param(target, *key, octets_of_span(read, own, *span));

@@ -5,7 +5,7 @@ use Rattle.std.proofs.Math.Seq.{drop-cons, take-suc}
 use Rattle.std.proofs.lemmas.Bool.Decides.{nat_tests}
 use Rattle.std.proofs.lemmas.List.Concat.{flat_map-append}
 use Rattle.svcb_spec.specs.Values.{protocols_wire}
-use Rattle.svcb_list.specs.Pushing.{IsProtocol}
+use Rattle.svcb_list.specs.Pushing.{IsProtocolLength}
 use Rattle.svcb_params.specs.ValueFaults.{alpn_fault_behind}
 
 -- one more protocol has its octet of length, and its own octets
@@ -17,7 +17,7 @@ added_len protocols protocol =
     ∙ omega arith
 
 module _ (len : ℕ) (protocol : List ℕ) (others : List (List ℕ)) where
-  pub fault_passed : IsProtocol (length protocol) → len + 1 + length protocol ≤ 65535 → alpn_fault_behind len (protocol ∷ others) ≡ alpn_fault_behind (len + 1 + length protocol) others
+  pub fault_passed : IsProtocolLength (length protocol) → len + 1 + length protocol ≤ 65535 → alpn_fault_behind len (protocol ∷ others) ≡ alpn_fault_behind (len + 1 + length protocol) others
   fault_passed is fits =
       let some : (length protocol == 0) ≡ false = grind (arith, nat_tests, is.not_empty) in
       let few : nat_lt 255 (length protocol) ≡ false = grind (arith, nat_tests, is.fits) in
@@ -33,7 +33,7 @@ module _ (all built built' : List (List ℕ)) (i : ℕ) (protocol : List ℕ) (h
   next_taken so_far =
       grown ∙ ap (λ b. b ++ protocol ∷ []) so_far ∙ ap (λ p. take i all ++ p ∷ []) item ∙ rw add-one (sym (take-suc all i protocol here))
 
-  pub next_fault : IsProtocol (length protocol) → length (protocols_wire built) + 1 + length protocol ≤ 65535
+  pub next_fault : IsProtocolLength (length protocol) → length (protocols_wire built) + 1 + length protocol ≤ 65535
       → alpn_fault_behind (length (protocols_wire built)) (drop i all) ≡ alpn_fault_behind (length (protocols_wire built')) (drop (i + 1) all)
   next_fault is fits =
       let len = length (protocols_wire built) in

@@ -5,7 +5,7 @@ use Rattle.name_spec.specs.Octets.{Fault}
 use Rattle.svcb_spec.specs.Params.{Pairs, value_at}
 use Rattle.svcb_spec.specs.Values as values
 use Rattle.name_spec.specs.Taking.{Taken}
-use Rattle.svcb_spec.specs.ReadingValues.{take_value, wholly}
+use Rattle.svcb_spec.specs.ReadingValues.{take_value, whole_value}
 use Rattle.wire_base.specs.declared.errors.ParseError.{ParseError}
 use Rattle.svcb_text.specs.WholeValues.{error_of}
 
@@ -19,7 +19,7 @@ with_item (Err fault) others = Err (error_of fault) ∷ []
 abbrev pub items : {Seen : Type 0} → (ℕ → Bool) → (ℕ → List ℕ → Result (Taken Seen) Fault) → Pairs → List (Result Seen ParseError)
 items takes reads [] = []
 items takes reads (pair ∷ pairs) =
-    if takes pair.0 then with_item (wholly pair.1 (reads pair.0 pair.1)) (items takes reads pairs)
+    if takes pair.0 then with_item (whole_value pair.1 (reads pair.0 pair.1)) (items takes reads pairs)
     else items takes reads pairs
 
 -- the items of the type of all values, which takes each key
@@ -35,7 +35,7 @@ first_value (Err error ∷ others) = None
 -- the value that octets wholly are, where there are octets
 abbrev pub whole_value_in : {Seen : Type 0} → (List ℕ → Result (Taken Seen) Fault) → Option (List ℕ) → Option Seen
 whole_value_in reads None = None
-whole_value_in reads (Some octets) = result_ok (wholly octets (reads octets))
+whole_value_in reads (Some octets) = result_ok (whole_value octets (reads octets))
 
 -- the same of a value of a key's type
 abbrev pub typed_value : ℕ → Option (List ℕ) → Option values.Value
@@ -64,6 +64,6 @@ abbrev pub raw_values : Pairs → List values.Value
 raw_values = map (λ pair. values.Unknown pair.0 pair.1)
 
 -- an item, as contracts see it
-abbrev pub seen_item : {V Seen : Type 0} → (V → Seen) → Result V ParseError → Result Seen ParseError
-seen_item seen (Ok value) = Ok (seen value)
-seen_item seen (Err error) = Err error
+abbrev pub value_item : {V Seen : Type 0} → (V → Seen) → Result V ParseError → Result Seen ParseError
+value_item seen (Ok value) = Ok (seen value)
+value_item seen (Err error) = Err error

@@ -14,7 +14,7 @@ use crate::params_ref::SvcParamsRef;
 use registry::ComposeSvcParamValue;
 use std::alloc::Global;
 use std::marker::Model;
-use svcb_pairs::{PushError, SpannedPairs};
+use svcb_pairs::{PushError, LimitedPairs};
 use wire_base::{NoMemory, Octets};
 
 /// Parameters by their keys, within a limit on their octets in wire form. Contracts see the map, as the list of its
@@ -22,14 +22,14 @@ use wire_base::{NoMemory, Octets};
 #[derive(Debug, Drop)]
 pub struct SvcParamsBuilder {
     /// No octets were read: the values stand in the buffer.
-    pairs: SpannedPairs,
+    pairs: LimitedPairs,
     alloc: Global,
 }
 
 impl Model for SvcParamsBuilder {
     ghost use Rattle.std.specs.Prelude.{[]};
     ghost use Rattle.svcb_pairs.specs.BuilderState.{BuilderState};
-    ghost use Rattle.svcb_pairs.specs.SpannedView.{builder_state, IsSpanned};
+    ghost use Rattle.svcb_pairs.specs.LimitedPairsView.{builder_state, IsSpanned};
 
     ghost Value = { BuilderState };
 
@@ -55,7 +55,7 @@ impl SvcParamsBuilder {
         ensures { result ≡ record { pairs = []; limit = limit } }
     {
         SvcParamsBuilder {
-            pairs: SpannedPairs::empty(alloc, limit),
+            pairs: LimitedPairs::empty(alloc, limit),
             alloc,
         }
     }
@@ -95,7 +95,7 @@ impl SvcParamsBuilder {
             return Err(BufError::ShortBuf);
         }
         Ok(SvcParamsBuilder {
-            pairs: SpannedPairs::copy_of(alloc, params.as_slice(), limit)?,
+            pairs: LimitedPairs::copy_of(alloc, params.as_slice(), limit)?,
             alloc,
         })
     }

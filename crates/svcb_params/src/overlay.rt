@@ -14,7 +14,7 @@ use crate::params_ref::SvcParamsRef;
 use registry::ComposeSvcParamValue;
 use std::alloc::Global;
 use std::marker::Model;
-use svcb_pairs::{PushError, SpannedPairs};
+use svcb_pairs::{PushError, LimitedPairs};
 use wire_base::NoMemory;
 
 /// Parameters that were read, with values added, within a limit on the octets of all in wire form. The values that were
@@ -24,11 +24,11 @@ use wire_base::NoMemory;
 #[derive(Debug, Drop)]
 pub struct SvcParamsOverlay<'a> {
     read: &'a [u8],
-    pairs: SpannedPairs,
+    pairs: LimitedPairs,
 }
 
 impl<'a> Model for SvcParamsOverlay<'a> {
-    ghost use Rattle.svcb_pairs.specs.SpannedView.{builder_state, kept_octets, IsSpanned};
+    ghost use Rattle.svcb_pairs.specs.LimitedPairsView.{builder_state, kept_octets, IsSpanned};
     ghost use Rattle.svcb_params.specs.OverlayState.{OverlayState};
 
     ghost Value = { OverlayState };
@@ -62,7 +62,7 @@ impl<'a> SvcParamsOverlay<'a> {
             return Err(BufError::ShortBuf);
         }
         let read = params.as_slice();
-        let pairs = SpannedPairs::new(alloc, read, limit)?;
+        let pairs = LimitedPairs::new(alloc, read, limit)?;
         Ok(SvcParamsOverlay { read, pairs })
     }
 

@@ -3,7 +3,7 @@
 ghost use Rattle.std.specs.Prelude.{◌≡◌, ◌==◌, None, [], Ok, length, option_map, MatchResult, IfOk};
 ghost use Rattle.svcb_spec.specs.Params.{pairs_at, wire, IsMap};
 ghost use Rattle.wire_base.specs.Faults.{IsFaultOf, GivesCopy};
-ghost use Rattle.wire_base.specs.Input.{left};
+ghost use Rattle.wire_base.specs.Input.{octets_left};
 ghost use Rattle.wire_base.specs.Moving.{TakesAll, AppendsOctets};
 ghost use Rattle.svcb_pairs.specs.Parameters.{read_pairs, pairs_in, IsParameters};
 ghost use Rattle.svcb_params.specs.ParamsView.{seen_params};
@@ -82,14 +82,14 @@ impl SvcParams {
     /// have no fault, and the memory for the copy isn't there.
     #[tactic(auto, using(svcb_pairs::proofs::Reading::part_read))]
     pub fn parse(alloc: Global, parser: &mut Parser<'_>) -> Result<SvcParams, ParseError>
-        ensures answer { GivesCopy (λ params. params) result (read_pairs (left parser.old)) }
+        ensures answer { GivesCopy (λ params. params) result (read_pairs (octets_left parser.old)) }
         ensures in_message { GivesCopy (λ params. params) result
             (pairs_at parser.old.message parser.old.end parser.old.pos None) }
-        ensures wire { IfOk result (λ params. wire params ≡ left parser.old) }
+        ensures wire { IfOk result (λ params. wire params ≡ octets_left parser.old) }
         ensures is_map { IfOk result IsMap }
         ensures takes { TakesAll parser.old parser.new result }
     {
-        let params = SvcParamsRef::from_slice(parser.peek_all())?.to_owned_data(alloc)?;
+        let params = SvcParamsRef::from_slice(parser.remaining_octets())?.to_owned_data(alloc)?;
         parser.advance_to_end();
         Ok(params)
     }

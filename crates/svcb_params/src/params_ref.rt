@@ -27,7 +27,7 @@ impl<'a> SvcParamsRef<'a> {
     ghost use Rattle.std.specs.Prelude.{◌≡◌, ◌==◌, [], None, Ok, length, MatchOption, MatchResult, option_map, IfOk};
     ghost use Rattle.svcb_spec.specs.Params.{pairs_at, wire, IsMap};
     ghost use Rattle.wire_base.specs.Faults.{IsFaultOf, Gives};
-    ghost use Rattle.wire_base.specs.Input.{left};
+    ghost use Rattle.wire_base.specs.Input.{octets_left};
     ghost use Rattle.wire_base.specs.Moving.{TakesAll, AppendsOctets};
     ghost use Rattle.svcb_pairs.specs.Parameters.{read_pairs, IsFirstPair};
     ghost use Rattle.svcb_params.specs.ParamsView.{seen_params};
@@ -54,13 +54,13 @@ impl<'a> SvcParamsRef<'a> {
     /// runs past the end. `Form`: a key is not above the one before it (RFC 9460, section 2.2).
     #[tactic(auto, using(svcb_pairs::proofs::Reading::part_read))]
     pub fn parse(parser: &mut Parser<'a>) -> Result<SvcParamsRef<'a>, ParseError>
-        ensures answer { Gives seen_params result (read_pairs (left parser.old)) }
+        ensures answer { Gives seen_params result (read_pairs (octets_left parser.old)) }
         ensures in_message { Gives seen_params result
             (pairs_at parser.old.message parser.old.end parser.old.pos None) }
-        ensures octets { IfOk result (λ view. view.slice.now ≡ left parser.old) }
+        ensures octets { IfOk result (λ view. view.slice.now ≡ octets_left parser.old) }
         ensures takes { TakesAll parser.old parser.new result }
     {
-        let view = SvcParamsRef::from_slice(parser.peek_all())?;
+        let view = SvcParamsRef::from_slice(parser.remaining_octets())?;
         parser.advance_to_end();
         Ok(view)
     }

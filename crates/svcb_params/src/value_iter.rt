@@ -3,7 +3,7 @@
 ghost use Rattle.std.specs.Prelude.{◌≡◌};
 ghost use Rattle.std.specs.Iterator.{YieldsFirstBy, item_count};
 ghost use Rattle.svcb_params.specs.ParamsView.{seen_params};
-ghost use Rattle.svcb_params.specs.Items.{items, IsFirst, seen_item};
+ghost use Rattle.svcb_params.specs.Items.{items, IsFirst, value_item};
 
 use crate::params_ref::SvcParamsRef;
 use registry::{ParseSvcParamValue, SvcParamKey};
@@ -63,7 +63,7 @@ impl<'s, V> ValueIter<'s, V> {
 impl<'s, V: ParseSvcParamValue<'s>> Iterator for ValueIter<'s, V> {
     type Item = Result<V, ParseError>;
 
-    ghost next_gives = { YieldsFirstBy (seen_item V.seen) (items V.takes V.reads) };
+    ghost next_gives = { YieldsFirstBy (value_item V.seen) (items V.takes V.reads) };
 
     ghost remaining = { item_count (items V.takes V.reads) };
 

@@ -5,7 +5,7 @@ use Rattle.std.specs.Result.{result_ok}
 use Rattle.svcb_spec.specs.declared.Reply.{Reply}
 use Rattle.svcb_spec.specs.Params.{Pairs}
 use Rattle.svcb_spec.specs.Values.{Value, key_of, AreValues}
-use Rattle.svcb_spec.specs.Rebuilding.{accept, accepted, AreHeld}
+use Rattle.svcb_spec.specs.Rebuilding.{accept, with_accepted, AreHeld}
 use Rattle.wire_base.specs.Faults.{IsFaultOf}
 use Rattle.wire_base.specs.declared.errors.ParseError.{ParseError}
 use Rattle.wire_base.specs.declared.errors.ParseError.TheVariants.{ShortInput, Form, NoMemory}
@@ -26,7 +26,7 @@ accepted_are_read pairs limit values are = held_are_read _ values _ are (accept-
 
 module _ (octets : List ℕ) (pairs : Pairs) (are : AreRebuilt octets pairs) where
   abbrev final : Record
-  final = accepted are.found are.values are.limit
+  final = with_accepted are.found are.values are.limit
 
   read_back : read octets 0 (length octets) ≡ Ok final
   read_back =

@@ -10,15 +10,15 @@ use Rattle.text_spec.specs.declared.errors.ScanError.{ScanError}
 use Rattle.text_spec.specs.declared.lexeme.Symbol.{Symbol}
 use Rattle.text_spec.specs.Pieces.{HasTokens}
 use Rattle.text_spec.specs.Scanning.{Scan, Answers}
-use Rattle.svcb_spec.specs.DataTexts.{data_printed, svcb_data}
-use Rattle.svcb_laws.specs.DataTextLaws.{IsData}
+use Rattle.svcb_spec.specs.DataTexts.{svcb_printed, svcb_data}
+use Rattle.svcb_laws.specs.DataTextLaws.{IsRecordOfOctets}
 use Rattle.svcb_laws.proofs.DataOctets.{is_data}
 use Rattle.svcb_laws.proofs.DataTexts.{text_again}
 use Rattle.svcb_rdata.specs.Texts.{ReadsBack}
 
 -- the tokens left are scanned as the data
-scanned_again : (tokens : List (List Symbol)) (place : ℕ) → place ≤ length tokens → (found : Record) → IsData found
-    → HasTokens (data_printed found) (drop place tokens) → (svcb_data tokens place).outcome ≡ Ok found
+scanned_again : (tokens : List (List Symbol)) (place : ℕ) → place ≤ length tokens → (found : Record) → IsRecordOfOctets found
+    → HasTokens (svcb_printed found) (drop place tokens) → (svcb_data tokens place).outcome ≡ Ok found
 scanned_again tokens place within found is has =
     let front = take place tokens in
     let count : length front ≡ place = length-take-le place tokens within in
@@ -33,6 +33,6 @@ reads_back old result within answer found is has =
 
 -- data is made of octets, where those of its target and its parameters are
 pub data_of_octets : (found : Record) (target parameters : List ℕ) → IsRecord found → target ≡ name_wire found.labels → parameters ≡ wire found.pairs
-    → AreOctets target → AreOctets parameters → IsData found
+    → AreOctets target → AreOctets parameters → IsRecordOfOctets found
 data_of_octets found target parameters is target_is parameters_are small few =
     is_data found is (subst AreOctets target_is small) (subst AreOctets parameters_are few)

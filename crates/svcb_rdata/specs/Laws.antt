@@ -5,7 +5,7 @@ use Rattle.svcb_spec.specs.declared.Reply.TheVariants.{Accepted}
 use Rattle.svcb_spec.specs.Params.{Pairs}
 use Rattle.svcb_spec.specs.Values.{Value, key_of, is_own_type, AreValues}
 use Rattle.svcb_spec.specs.Records.{Record}
-use Rattle.svcb_spec.specs.Rebuilding.{accept, accepted, IsRebuilding}
+use Rattle.svcb_spec.specs.Rebuilding.{accept, with_accepted, IsRebuilding}
 use Rattle.svcb_params.specs.Items.{typed_at}
 
 -- each typed value that was accepted is what its type reads under its key
@@ -30,4 +30,4 @@ pub record AreRebuilt (octets : List ℕ) (pairs : Pairs) : Type 0 where
   pub found : Record
   pub replies : List Reply
   pub rebuilding : IsRebuilding message start len values limit found (record { octets = octets; replies = replies })
-  pub pairs_are : pairs ≡ (accepted found values limit).pairs
+  pub pairs_are : pairs ≡ (with_accepted found values limit).pairs

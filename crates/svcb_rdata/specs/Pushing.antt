@@ -1,7 +1,7 @@
 -- One push of a value.
 use Rattle.svcb_spec.specs.declared.Reply.{Reply}
 use Rattle.svcb_spec.specs.Values.{Value, key_of, encode}
-use Rattle.svcb_spec.specs.Rebuilding.{after}
+use Rattle.svcb_spec.specs.Rebuilding.{pairs_after}
 use Rattle.svcb_pairs.specs.BuilderState.{BuilderState}
 use Rattle.svcb_pairs.specs.Pushing.{reply_of}
 
@@ -11,4 +11,4 @@ reply_of_value builder value = reply_of builder (key_of value) (encode value)
 
 -- the builder behind that push
 abbrev pub behind_value : BuilderState → Value → Reply → BuilderState
-behind_value builder value reply = record builder { pairs = after reply builder.pairs (key_of value) (encode value) }
+behind_value builder value reply = record builder { pairs = pairs_after reply builder.pairs (key_of value) (encode value) }

@@ -32,8 +32,8 @@ reaching end (Ok found) = Ok (record { value = found; next = end })
 reaching end (Err fault) = Err fault
 
 -- that record data, and the place behind it
-abbrev pub data_read : Input → Result (DataRead Record) Fault
-data_read input = reaching input.end (next_record input)
+abbrev pub svcb_data_read : Input → Result (DataRead Record) Fault
+svcb_data_read input = reaching input.end (next_record input)
 
 -- the parameters of a record that was read
 abbrev pub record_pairs : Result Record Fault → Result Pairs Fault

@@ -32,12 +32,12 @@ IsRefusal LongRecordData answer = answer ≡ Err spec.TooLong
 IsRefusal NoMemory answer = MayWantMemory answer
 
 -- what was rebuilt, as contracts see it
-abbrev pub seen : Rebuilt → spec.Rebuilt
-seen done = record { octets = done.octets; replies = done.replies }
+abbrev pub rebuilt_view : Rebuilt → spec.Rebuilt
+rebuilt_view done = record { octets = done.octets; replies = done.replies }
 
 -- the octets and the replies are those of the answer, or the error is its refusal
 abbrev pub AnswersRebuild : Result Rebuilt RebuildError → Result spec.Rebuilt spec.Refusal → Type 0
-AnswersRebuild (Ok done) answer = answer ≡ Ok (seen done)
+AnswersRebuild (Ok done) answer = answer ≡ Ok (rebuilt_view done)
 AnswersRebuild (Err error) answer = IsRefusal error answer
 
 -- how many octets the record data has with the values that are accepted
@@ -47,4 +47,4 @@ rebuilt_len found values limit = length (rdata found.priority found.labels (acce
 -- what was rebuilt is a rebuilding of the record that was read: the premise of the laws
 abbrev pub IsRebuiltFrom : List ℕ → ℕ → ℕ → List Value → ℕ → Rebuilt → Type 0
 IsRebuiltFrom message start len values limit done =
-    (found : Record) → read message start len ≡ Ok found → IsRebuilding message start len values limit found (seen done)
+    (found : Record) → read message start len ≡ Ok found → IsRebuilding message start len values limit found (rebuilt_view done)

@@ -4,11 +4,11 @@ use Rattle.svcb_spec.specs.Records.{Record}
 use Rattle.text_spec.specs.declared.errors.ScanError.{ScanError}
 use Rattle.text_spec.specs.Pieces.{HasTokens}
 use Rattle.text_spec.specs.Scanning.{Scan, Answers}
-use Rattle.svcb_spec.specs.DataTexts.{data_printed}
-use Rattle.svcb_laws.specs.DataTextLaws.{IsData}
+use Rattle.svcb_spec.specs.DataTexts.{svcb_printed}
+use Rattle.svcb_laws.specs.DataTextLaws.{IsRecordOfOctets}
 
 -- Where the tokens left are those of the printed text of some data, the answer is that data. Only want of memory may
 -- stand in its place.
 abbrev pub ReadsBack : Scan → Result Record ScanError → Type 0
-ReadsBack old result = (found : Record) → IsData found
-    → HasTokens (data_printed found) (drop old.taken old.tokens) → Answers (λ seen. seen) result (Ok found)
+ReadsBack old result = (found : Record) → IsRecordOfOctets found
+    → HasTokens (svcb_printed found) (drop old.taken old.tokens) → Answers (λ seen. seen) result (Ok found)

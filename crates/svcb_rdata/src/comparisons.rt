@@ -8,9 +8,9 @@ use std::hash::{Hash, Hasher};
 impl<V> PartialEq for SvcbRdata<V> {
     ghost use Rattle.std.specs.Cmp.Rules.{comparing};
     ghost use Rattle.std.proofs.Common.{rules};
-    ghost use Rattle.svcb_rdata.specs.Comparing.{is_same_data};
+    ghost use Rattle.svcb_rdata.specs.Comparing.{is_same_svcb};
 
-    ghost eq = { is_same_data };
+    ghost eq = { is_same_svcb };
 
     ghost laws = { Prim.search (comparing, rules) depth 16 };
 
@@ -32,15 +32,15 @@ impl<V> Eq for SvcbRdata<V> {
 impl<V> Ord for SvcbRdata<V> {
     ghost use Rattle.std.specs.Cmp.Rules.{comparing};
     ghost use Rattle.std.proofs.Common.{rules};
-    ghost use Rattle.svcb_rdata.specs.Comparing.{data_cmp, same_data_ties};
+    ghost use Rattle.svcb_rdata.specs.Comparing.{svcb_cmp, same_svcb_ties};
 
-    ghost cmp = { data_cmp };
+    ghost cmp = { svcb_cmp };
 
     ghost total = { Prim.search (comparing, rules) depth 16 };
 
     ghost matches_partial_cmp = { Prim.search (comparing, rules) };
 
-    ghost matches_eq = { same_data_ties };
+    ghost matches_eq = { same_svcb_ties };
 
     fn cmp(&self, other: &SvcbRdata<V>) -> Ordering {
         self.priority()
@@ -55,12 +55,12 @@ impl<V> PartialOrd for SvcbRdata<V> {
     ghost use Rattle.std.specs.Cmp.{partial_order_from_own_ties};
     ghost use Rattle.std.specs.Cmp.Rules.{comparing};
     ghost use Rattle.std.proofs.Common.{rules};
-    ghost use Rattle.svcb_rdata.specs.Comparing.{data_cmp, same_data_ties};
+    ghost use Rattle.svcb_rdata.specs.Comparing.{svcb_cmp, same_svcb_ties};
 
-    ghost partial_cmp = { as_partial_cmp data_cmp };
+    ghost partial_cmp = { as_partial_cmp svcb_cmp };
 
     ghost laws = { partial_order_from_own_ties
-        (Prim.search (comparing, rules) depth 16) same_data_ties };
+        (Prim.search (comparing, rules) depth 16) same_svcb_ties };
 
     fn partial_cmp(&self, other: &SvcbRdata<V>) -> Option<Ordering> {
         Some(self.cmp(other))
@@ -69,11 +69,11 @@ impl<V> PartialOrd for SvcbRdata<V> {
 
 /// The priority, the target's octets in lower case, and the parameters' octets.
 impl<V> Hash for SvcbRdata<V> {
-    ghost use Rattle.svcb_rdata.specs.Comparing.{data_fed, same_data_fed};
+    ghost use Rattle.svcb_rdata.specs.Comparing.{svcb_hash_input, same_svcb_hash_input};
 
-    ghost hash_input = { data_fed };
+    ghost hash_input = { svcb_hash_input };
 
-    ghost respects_eq = { same_data_fed };
+    ghost respects_eq = { same_svcb_hash_input };
 
     fn hash<H: Hasher>(&self, state: &mut H) {
         self.priority().hash(state);

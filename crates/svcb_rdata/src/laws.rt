@@ -7,7 +7,7 @@ ghost use Rattle.svcb_spec.specs.Records.{read};
 ghost use Rattle.wire_base.specs.Faults.{Gives};
 ghost use Rattle.svcb_rdata.specs.Reading.{record_pairs};
 ghost use Rattle.svcb_rdata.specs.Laws.{AcceptedRead, AreRebuilt};
-ghost use Rattle.svcb_laws.specs.DataTextLaws.{IsData};
+ghost use Rattle.svcb_laws.specs.DataTextLaws.{IsRecordOfOctets};
 
 use crate::rdata::SvcbRdata;
 use crate::rebuild::read_record;
@@ -23,7 +23,7 @@ pub fn accepted_read()
 /// The parts of any data are made of octets, which is what the laws of `svcb_laws` on printed texts ask of it. The
 /// function does nothing when it runs.
 pub fn made_of_octets<V>(found: &SvcbRdata<V>)
-    ensures { IsData found.now }
+    ensures { IsRecordOfOctets found.now }
 {
     let _priority = found.priority();
     let _len = found.len();

@@ -4,7 +4,7 @@ ghost use Rattle.std.specs.Prelude.{◌≡◌, ◌==◌, ◌≤◌, ◌<◌, not
 ghost use Rattle.svcb_spec.specs.Records.{Record, rdata, IsRecord};
 ghost use Rattle.wire_base.specs.Faults.{GivesCopy};
 ghost use Rattle.wire_base.specs.Moving.{TakesAll, AppendsOctets};
-ghost use Rattle.svcb_rdata.specs.Reading.{next_record, data_read};
+ghost use Rattle.svcb_rdata.specs.Reading.{next_record, svcb_data_read};
 
 use crate::svcb_ref::SvcbRef;
 use crate::variant::{HttpsVariant, SvcVariant, SvcbVariant};
@@ -196,7 +196,7 @@ impl<V: SvcVariant> ParseRecordData for SvcbRdata<V> {
 
     ghost takes = { λ rtype. rtype == V.RTYPE };
 
-    ghost reads = { λ _. data_read };
+    ghost reads = { λ _. svcb_data_read };
 
     fn parse_rdata(
         alloc: Global,

@@ -2,7 +2,7 @@
 
 ghost use Rattle.std.specs.Prelude.{◌≡◌, Some};
 ghost use Rattle.text_spec.specs.Scanning.{Scan, Scans, ScansPart};
-ghost use Rattle.svcb_spec.specs.DataTexts.{data_printed, svcb_data};
+ghost use Rattle.svcb_spec.specs.DataTexts.{svcb_printed, svcb_data};
 ghost use Rattle.svcb_spec.specs.DataDocuments.{svcb_document};
 ghost use Rattle.svcb_spec.specs.DataDocumentLaws.{document-svcb};
 ghost use Rattle.svcb_rdata.specs.Texts.{ReadsBack};
@@ -33,7 +33,7 @@ impl<V> SvcbRdata<V> {
     {
         let place = scanner.taken();
         let outcome = scan_parts(alloc, scanner);
-        scanner.stay_without_memory(place, outcome)
+        scanner.rewind_on_no_memory(place, outcome)
     }
 }
 
@@ -51,7 +51,7 @@ fn scan_parts<V, S: Scanner>(alloc: Global, scanner: &mut S) -> Result<SvcbRdata
 /// The priority, the target with its final dot and the parameters, with a space between two of them: data without
 /// parameters ends in a space.
 impl<V> fmt::Display for SvcbRdata<V> {
-    ghost output = { λ found. Some (data_printed found) };
+    ghost output = { λ found. Some (svcb_printed found) };
 
     fn fmt<W: fmt::Write>(&self, f: &mut fmt::Formatter<W>) -> fmt::Result {
         let target = self.target().fmt_with_dot();

@@ -7,7 +7,7 @@ use Rattle.std.proofs.lemmas.Bool.{cases_lt}
 use Rattle.std.specs.Prelude.{slice_index}
 use Rattle.std.specs.List.{concat}
 use Rattle.name_spec.specs.Octets.{be2}
-use Rattle.svcb_spec.specs.Values.{Each, numbers_wire, protocols_wire}
+use Rattle.svcb_spec.specs.Values.{Each, numbers16_wire, protocols_wire}
 use Rattle.svcb_spec.specs.ReadingValues.{octets_number, parts_behind, parts, numbers, protocols_behind, protocols, are_whole_behind, are_whole}
 
 -- ---- octets
@@ -128,7 +128,7 @@ octets_number-small (a ∷ []) are is = absurd (omega arith)
 octets_number-small (a ∷ b ∷ []) are is = omega (arith, are.0, are.1.0)
 octets_number-small (a ∷ b ∷ c ∷ octets) are is = absurd (omega arith)
 
-be2s : (numbers : List ℕ) → concat (map be2 numbers) ≡ numbers_wire numbers
+be2s : (numbers : List ℕ) → concat (map be2 numbers) ≡ numbers16_wire numbers
 be2s [] = refl
 be2s (n ∷ ns) = ap (λ rest. be2 n ++ rest) (be2s ns)
 
@@ -141,16 +141,16 @@ numbers_of [] = refl
 numbers_of (n ∷ ns) = ap (λ m. m ∷ map octets_number (map be2 ns)) (octets_number-be2 n) ∙ ap (λ rest. n ∷ rest) (numbers_of ns)
 
 -- numbers are read back from their octets
-pub numbers-numbers_wire : (ns : List ℕ) → numbers (numbers_wire ns) ≡ ns
+pub numbers-numbers_wire : (ns : List ℕ) → numbers (numbers16_wire ns) ≡ ns
 numbers-numbers_wire ns =
     ap (λ octets. map octets_number (parts 2 octets)) (sym (be2s ns))
     ∙ ap (map octets_number) (parts-concat 2 (map be2 ns) (omega arith) (be2s_have ns)) ∙ numbers_of ns
 
-pub length-numbers_wire : (ns : List ℕ) → length (numbers_wire ns) ≡ 2 * length ns
+pub length-numbers_wire : (ns : List ℕ) → length (numbers16_wire ns) ≡ 2 * length ns
 length-numbers_wire [] = refl
 length-numbers_wire (n ∷ ns) = omega (arith, length-numbers_wire ns)
 
-pub numbers_wire-whole : (ns : List ℕ) → length (numbers_wire ns) % 2 ≡ 0
+pub numbers_wire-whole : (ns : List ℕ) → length (numbers16_wire ns) % 2 ≡ 0
 numbers_wire-whole ns = omega (arith, length-numbers_wire ns)
 
 -- the first number, and the others
@@ -163,7 +163,7 @@ AreOctets-take (suc n) [] are = tt
 AreOctets-take (suc n) (octet ∷ octets) are = (are.0, AreOctets-take n octets are.1)
 
 numbers_written : (count : ℕ) (octets : List ℕ) → length octets ≤ count → AreOctets octets → length octets % 2 ≡ 0
-    → (numbers_wire (numbers octets) ≡ octets) × Each (λ n. n < 65536) (numbers octets)
+    → (numbers16_wire (numbers octets) ≡ octets) × Each (λ n. n < 65536) (numbers octets)
 numbers_written count [] few are whole = (refl, tt)
 numbers_written zero (octet ∷ octets) few are whole = absurd (omega arith)
 numbers_written (suc count) (octet ∷ octets) few are whole =
@@ -173,15 +173,15 @@ numbers_written (suc count) (octet ∷ octets) few are whole =
     let here : AreOctets (take 2 (octet ∷ octets)) = AreOctets-take 2 (octet ∷ octets) are in
     let others = numbers_written count (drop 2 (octet ∷ octets)) (omega (arith, split.0)) (AreOctets-drop 2 (octet ∷ octets) are) (ap (λ n. n % 2) rest ∙ split.1) in
     let first = numbers-first (octet ∷ octets) (omega arith) in (
-      ap numbers_wire first
-          ∙ ap (λ front. front ++ numbers_wire (numbers (drop 2 (octet ∷ octets)))) (be2-octets_number (take 2 (octet ∷ octets)) here two)
+      ap numbers16_wire first
+          ∙ ap (λ front. front ++ numbers16_wire (numbers (drop 2 (octet ∷ octets)))) (be2-octets_number (take 2 (octet ∷ octets)) here two)
           ∙ ap (λ back. take 2 (octet ∷ octets) ++ back) others.0
           ∙ take-append-drop 2 (octet ∷ octets),
       subst (Each (λ n. n < 65536)) (sym first) (octets_number-small (take 2 (octet ∷ octets)) here two, others.1),
     )
 
 -- the octets of the numbers that octets spell are these octets
-pub numbers_wire-numbers : (octets : List ℕ) → AreOctets octets → length octets % 2 ≡ 0 → numbers_wire (numbers octets) ≡ octets
+pub numbers_wire-numbers : (octets : List ℕ) → AreOctets octets → length octets % 2 ≡ 0 → numbers16_wire (numbers octets) ≡ octets
 numbers_wire-numbers octets are whole = (numbers_written (length octets) octets (omega arith) are whole).0
 
 pub numbers-small : (octets : List ℕ) → AreOctets octets → length octets % 2 ≡ 0 → Each (λ n. n < 65536) (numbers octets)

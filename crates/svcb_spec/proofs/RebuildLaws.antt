@@ -11,7 +11,7 @@ use Rattle.svcb_spec.specs.declared.Reply.TheVariants.{Accepted, DuplicateKey, S
 use Rattle.svcb_spec.specs.Params.{Pair, Pairs, value_at, wire, IsMap}
 use Rattle.svcb_spec.specs.Values.{Value, key_of, encode, IsValue, AreValues}
 use Rattle.svcb_spec.specs.Records.{Record, IsRecord, read}
-use Rattle.svcb_spec.specs.Rebuilding.{reply_to, after, accept, Rebuilt, rebuild_read, rebuild_of, rebuild, accepted, AreHeld, IsRebuilding}
+use Rattle.svcb_spec.specs.Rebuilding.{reply_to, pairs_after, accept, Rebuilt, rebuild_read, rebuild_of, rebuild, with_accepted, AreHeld, IsRebuilding}
 use Rattle.svcb_spec.proofs.WireLaws.{IsMap-insert}
 use Rattle.svcb_spec.proofs.ItemLaws.{small_octets}
 use Rattle.svcb_spec.proofs.ValueLaws.{key_of_small}
@@ -83,7 +83,7 @@ value_at-kept (pair ∷ pairs) key value other apart = elim (cases_lt key pair.0
 -- ---- pushes
 
 -- a push keeps a map
-after-map : (reply : Reply) (pairs : Pairs) (value : Value) → IsMap pairs → IsValue value → IsMap (after reply pairs (key_of value) (encode value))
+after-map : (reply : Reply) (pairs : Pairs) (value : Value) → IsMap pairs → IsValue value → IsMap (pairs_after reply pairs (key_of value) (encode value))
 after-map Accepted pairs value is_map is = IsMap-insert pairs (key_of value) (encode value) is_map (key_of_small value is.0) is.1
 after-map DuplicateKey pairs value is_map is = is_map
 after-map ShortBuf pairs value is_map is = is_map
@@ -94,21 +94,21 @@ unfolding accept
 accept-map pairs limit [] is_map are = is_map
 accept-map pairs limit (value ∷ values) is_map are =
     let reply = reply_to pairs limit (key_of value) (encode value) in
-    accept-map (after reply pairs (key_of value) (encode value)) limit values (after-map reply pairs value is_map are.0) are.1
+    accept-map (pairs_after reply pairs (key_of value) (encode value)) limit values (after-map reply pairs value is_map are.0) are.1
 
 duplicate : (pairs : Pairs) (limit key : ℕ) (octets held : List ℕ) → value_at pairs key ≡ Some held → reply_to pairs limit key octets ≡ DuplicateKey
 duplicate pairs limit key octets held there = rw there refl
 
 -- a key that is there keeps its value behind a push
 after-kept : (pairs : Pairs) (limit : ℕ) (value : Value) (key : ℕ) (held : List ℕ) → value_at pairs key ≡ Some held
-    → value_at (after (reply_to pairs limit (key_of value) (encode value)) pairs (key_of value) (encode value)) key ≡ Some held
+    → value_at (pairs_after (reply_to pairs limit (key_of value) (encode value)) pairs (key_of value) (encode value)) key ≡ Some held
 after-kept pairs limit value key held there = elim (cases_eq key (key_of value)) [
   | inl same ↦
-      ap (λ r. value_at (after r pairs (key_of value) (encode value)) key) (duplicate pairs limit (key_of value) (encode value) held (ap (value_at pairs) (sym same) ∙ there)) ∙ there
+      ap (λ r. value_at (pairs_after r pairs (key_of value) (encode value)) key) (duplicate pairs limit (key_of value) (encode value) held (ap (value_at pairs) (sym same) ∙ there)) ∙ there
   | inr apart ↦ by_reply (reply_to pairs limit (key_of value) (encode value)) apart
 ]
   where
-    by_reply : (reply : Reply) → key ≢ key_of value → value_at (after reply pairs (key_of value) (encode value)) key ≡ Some held
+    by_reply : (reply : Reply) → key ≢ key_of value → value_at (pairs_after reply pairs (key_of value) (encode value)) key ≡ Some held
     by_reply Accepted apart = value_at-kept pairs (key_of value) (encode value) key apart ∙ there
     by_reply DuplicateKey apart = there
     by_reply ShortBuf apart = there
@@ -119,7 +119,7 @@ unfolding accept
 accept-kept pairs limit [] key held there = there
 accept-kept pairs limit (value ∷ values) key held there =
     let reply = reply_to pairs limit (key_of value) (encode value) in
-    accept-kept (after reply pairs (key_of value) (encode value)) limit values key held (after-kept pairs limit value key held there)
+    accept-kept (pairs_after reply pairs (key_of value) (encode value)) limit values key held (after-kept pairs limit value key held there)
 
 -- a value that was accepted is the one under its key
 pub accept-holds : (pairs : Pairs) (limit : ℕ) (values : List Value) → AreHeld (accept pairs limit values).pairs values (accept pairs limit values).replies
@@ -127,21 +127,21 @@ unfolding accept
 accept-holds pairs limit [] = tt
 accept-holds pairs limit (value ∷ values) =
     let reply = reply_to pairs limit (key_of value) (encode value) in (
-      λ is. accept-kept (after reply pairs (key_of value) (encode value)) limit values (key_of value) (encode value)
-          (ap (λ r. value_at (after r pairs (key_of value) (encode value)) (key_of value)) is ∙ value_at-put pairs (key_of value) (encode value)),
-      accept-holds (after reply pairs (key_of value) (encode value)) limit values,
+      λ is. accept-kept (pairs_after reply pairs (key_of value) (encode value)) limit values (key_of value) (encode value)
+          (ap (λ r. value_at (pairs_after r pairs (key_of value) (encode value)) (key_of value)) is ∙ value_at-put pairs (key_of value) (encode value)),
+      accept-holds (pairs_after reply pairs (key_of value) (encode value)) limit values,
     )
 
 -- ---- what was rebuilt
 
 -- what is known of a result
 record IsDone (found : Record) (values : List Value) (limit : ℕ) (done : Rebuilt) : Type 0 where
-  few : length (record_octets (accepted found values limit)) < 65536
-  is : done ≡ record { octets = record_octets (accepted found values limit); replies = (accept found.pairs limit values).replies }
+  few : length (record_octets (with_accepted found values limit)) < 65536
+  is : done ≡ record { octets = record_octets (with_accepted found values limit); replies = (accept found.pairs limit values).replies }
 
 read_done : (found : Record) (values : List Value) (limit : ℕ) (done : Rebuilt) → rebuild_read found values limit ≡ Ok done → IsDone found values limit done
 read_done found values limit done is =
-    let few : length (record_octets (accepted found values limit)) < 65536 = grind (arith, nat_tests) in
+    let few : length (record_octets (with_accepted found values limit)) < 65536 = grind (arith, nat_tests) in
     record {
       few = few;
       is = grind (arith, nat_tests);
@@ -156,7 +156,7 @@ module _ (message : List ℕ) (start len : ℕ) (values : List Value) (limit : �
   known = read_done found values limit done by_read
 
   -- the record that was rebuilt
-  accepted_is : IsRecord (accepted found values limit)
+  accepted_is : IsRecord (with_accepted found values limit)
   accepted_is =
       let was = IsRecord-read message start len found (small_octets message is.octets) is.in_message is.read in
       record {
@@ -166,19 +166,19 @@ module _ (message : List ℕ) (start len : ℕ) (values : List Value) (limit : �
         fits = known.few;
       }
 
-  done_octets : done.octets ≡ record_octets (accepted found values limit)
+  done_octets : done.octets ≡ record_octets (with_accepted found values limit)
   done_octets = ap (λ (d : Rebuilt). d.octets) known.is
 
   -- what was rebuilt is read back
-  pub rebuilt_read_back : read done.octets 0 (length done.octets) ≡ Ok (accepted found values limit)
-  rebuilt_read_back = ap (λ octets. read octets 0 (length octets)) done_octets ∙ read-rdata (accepted found values limit) accepted_is
+  pub rebuilt_read_back : read done.octets 0 (length done.octets) ≡ Ok (with_accepted found values limit)
+  rebuilt_read_back = ap (λ octets. read octets 0 (length octets)) done_octets ∙ read-rdata (with_accepted found values limit) accepted_is
 
   -- and rebuilt with no pushes it stays
-  pub rebuilt_again : (other : ℕ) → length (wire (accepted found values limit).pairs) ≤ other
+  pub rebuilt_again : (other : ℕ) → length (wire (with_accepted found values limit).pairs) ≤ other
       → rebuild done.octets 0 (length done.octets) [] other ≡ Ok (record { octets = done.octets; replies = [] })
   unfolding rebuild accept
   rebuilt_again other within =
-      let final = accepted found values limit in
+      let final = with_accepted found values limit in
       let e1 : nat_lt other (length (wire final.pairs)) ≡ false = grind (arith, nat_tests) in
       let e2 : nat_lt 65535 (length (record_octets final)) ≡ false = (let few = known.few in grind (arith, nat_tests)) in
       ap (λ r. rebuild_of r [] other) rebuilt_read_back
@@ -189,7 +189,7 @@ module _ (message : List ℕ) (start len : ℕ) (values : List Value) (limit : �
 pub canonical_form : (message : List ℕ) (start len : ℕ) (values : List Value) (limit : ℕ) (found : Record) (done : Rebuilt)
     → (message' : List ℕ) (start' len' : ℕ) (values' : List Value) (limit' : ℕ) (found' : Record) (done' : Rebuilt)
     → IsRebuilding message start len values limit found done → IsRebuilding message' start' len' values' limit' found' done'
-    → (done.octets ≡ done'.octets) ↔ (accepted found values limit ≡ accepted found' values' limit')
+    → (done.octets ≡ done'.octets) ↔ (with_accepted found values limit ≡ with_accepted found' values' limit')
 canonical_form message start len values limit found done message' start' len' values' limit' found' done' is is' =
     let one = done_octets message start len values limit found done is in
     let two = done_octets message' start' len' values' limit' found' done' is' in (

@@ -19,12 +19,12 @@ target_line : IsOneLine (codes "target")
 target_line = (refl, (refl, (refl, (refl, (refl, (refl, tt))))))
 
 -- the parts before the parameters
-abbrev parts : Record → List Item
-parts found =
+abbrev leading_items : Record → List Item
+leading_items found =
     Token (decimal found.priority) ∷ Comment (codes "priority") ∷ Token (printed_name_with_dot found.labels) ∷ Comment (codes "target") ∷ []
 
 pub document-svcb : (found : Record) → IsDocument (svcb_document found)
 document-svcb found =
-    let first : IsDocument (parts found) = record { closes = λ _. refl; comments = (priority_line, (target_line, tt)) } in
-    document-block (parts found ++ params_document found.pairs)
-    (document-append (parts found) (params_document found.pairs) first (document-params found.pairs))
+    let first : IsDocument (leading_items found) = record { closes = λ _. refl; comments = (priority_line, (target_line, tt)) } in
+    document-block (leading_items found ++ params_document found.pairs)
+    (document-append (leading_items found) (params_document found.pairs) first (document-params found.pairs))

@@ -2,8 +2,8 @@
 use Rattle.std.specs.Prelude.{◌≡◌, ℕ, ◌+◌, ◌<◌, ◌≤◌, ◌↔◌, true, List, [], length, Option, None, Ok}
 use Rattle.svcb_spec.specs.Values.{Value, key_of, encode, Each, IsValue, AreValues, is_own_type, is_unknown}
 use Rattle.svcb_spec.specs.Records.{Record, rdata, IsRecord, read}
-use Rattle.svcb_spec.specs.Rebuilding.{accept, Rebuilt, rebuild, accepted, AreHeld, IsRebuilding}
-use Rattle.svcb_spec.specs.ReadingValues.{take_value, wholly, value_in}
+use Rattle.svcb_spec.specs.Rebuilding.{accept, Rebuilt, rebuild, with_accepted, AreHeld, IsRebuilding}
+use Rattle.svcb_spec.specs.ReadingValues.{take_value, whole_value, value_in}
 use Rattle.svcb_spec.specs.Params.{Pairs, pairs_step, pairs_at, wire, IsMap, pairs_wire}
 
 -- ---- service parameters
@@ -30,7 +30,7 @@ PairsInWire = (octets : List ℕ) (pairs : Pairs) → Each (λ octet. octet < 25
 -- a value of its key's type is read back from its octets
 abbrev pub ValuesReadBack : Type 0
 ValuesReadBack = (value : Value) → IsValue value → is_own_type value ≡ true
-    → wholly (encode value) (take_value (key_of value) (encode value)) ≡ Ok value
+    → whole_value (encode value) (take_value (key_of value) (encode value)) ≡ Ok value
 
 -- no octets are those of two values of one type and key
 abbrev pub ValuesEncodeOnce : Type 0
@@ -62,7 +62,7 @@ ReadIsRecord = (message : List ℕ) (start len : ℕ) (found : Record) → Each 
 -- what was rebuilt is read as the record that was found, with the pairs accepted
 abbrev pub RebuiltReadBack : Type 0
 RebuiltReadBack = (message : List ℕ) (start len : ℕ) (values : List Value) (limit : ℕ) (found : Record) (done : Rebuilt)
-    → IsRebuilding message start len values limit found done → read done.octets 0 (length done.octets) ≡ Ok (accepted found values limit)
+    → IsRebuilding message start len values limit found done → read done.octets 0 (length done.octets) ≡ Ok (with_accepted found values limit)
 
 -- Two results have equal octets exactly where priority, labels and maps are equal. So the order in which accepted
 -- values were pushed does not show.
@@ -70,12 +70,12 @@ abbrev pub CanonicalForm : Type 0
 CanonicalForm = (message : List ℕ) (start len : ℕ) (values : List Value) (limit : ℕ) (found : Record) (done : Rebuilt)
     → (message' : List ℕ) (start' len' : ℕ) (values' : List Value) (limit' : ℕ) (found' : Record) (done' : Rebuilt)
     → IsRebuilding message start len values limit found done → IsRebuilding message' start' len' values' limit' found' done'
-    → (done.octets ≡ done'.octets) ↔ (accepted found values limit ≡ accepted found' values' limit')
+    → (done.octets ≡ done'.octets) ↔ (with_accepted found values limit ≡ with_accepted found' values' limit')
 
 -- what was rebuilt stays as it is when it is rebuilt with no pushes, within any limit on its own map
 abbrev pub RebuiltAgain : Type 0
 RebuiltAgain = (message : List ℕ) (start len : ℕ) (values : List Value) (limit : ℕ) (found : Record) (done : Rebuilt) (other : ℕ)
-    → IsRebuilding message start len values limit found done → length (wire (accepted found values limit).pairs) ≤ other
+    → IsRebuilding message start len values limit found done → length (wire (with_accepted found values limit).pairs) ≤ other
     → rebuild done.octets 0 (length done.octets) [] other ≡ Ok (record { octets = done.octets; replies = [] })
 
 -- each value that was accepted is the one under its key in the final map

@@ -17,10 +17,10 @@ reply_to pairs limit key octets =
     else Accepted
 
 -- the map behind that push
-abbrev pub after : Reply → Pairs → ℕ → List ℕ → Pairs
-after DuplicateKey pairs key octets = pairs
-after ShortBuf pairs key octets = pairs
-after Accepted pairs key octets = insert_entry nat_cmp pairs key octets
+abbrev pub pairs_after : Reply → Pairs → ℕ → List ℕ → Pairs
+pairs_after DuplicateKey pairs key octets = pairs
+pairs_after ShortBuf pairs key octets = pairs
+pairs_after Accepted pairs key octets = insert_entry nat_cmp pairs key octets
 
 -- the map behind all pushes, and their replies
 pub record Pushed : Type 0 where
@@ -32,7 +32,7 @@ unfoldable pub accept : Pairs → ℕ → List Value → Pushed
 accept pairs limit [] = record { pairs = pairs; replies = [] }
 accept pairs limit (value ∷ values) =
     let reply = reply_to pairs limit (key_of value) (encode value) in
-    let rest = accept (after reply pairs (key_of value) (encode value)) limit values in
+    let rest = accept (pairs_after reply pairs (key_of value) (encode value)) limit values in
     record { pairs = rest.pairs; replies = reply ∷ rest.replies }
 
 -- why nothing is rebuilt: the data has a fault, its parameters exceed the limit, or the result exceeds 65,535 octets
@@ -65,8 +65,8 @@ rebuild message start len values limit = rebuild_of (read message start len) val
 -- ---- what rebuilding leaves
 
 -- a record with the pairs of the values accepted
-abbrev pub accepted : Record → List Value → ℕ → Record
-accepted found values limit = record found { pairs = (accept found.pairs limit values).pairs }
+abbrev pub with_accepted : Record → List Value → ℕ → Record
+with_accepted found values limit = record found { pairs = (accept found.pairs limit values).pairs }
 
 -- each value that was accepted is the one under its key
 abbrev pub AreHeld : Pairs → List Value → List Reply → Type 0

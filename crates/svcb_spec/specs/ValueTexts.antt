@@ -69,9 +69,9 @@ insert_ascending n [] = n ∷ []
 insert_ascending n (m ∷ numbers) = if nat_le n m then n ∷ m ∷ numbers else m ∷ insert_ascending n numbers
 
 -- numbers in ascending order
-abbrev pub ascending : List ℕ → List ℕ
-ascending [] = []
-ascending (n ∷ numbers) = insert_ascending n (ascending numbers)
+abbrev pub in_ascending_order : List ℕ → List ℕ
+in_ascending_order [] = []
+in_ascending_order (n ∷ numbers) = insert_ascending n (in_ascending_order numbers)
 
 -- a value of at most 65,535 octets
 abbrev pub short_value : Value → Result Value ScanError
@@ -93,7 +93,7 @@ utf8_text text = if is_utf8 text then Ok text else Err BadUtf8
 
 abbrev pub mandatory_value : List ℕ → Result Value ScanError
 mandatory_value text =
-    some_text text >>= λ list. read_items mandatory_item [] (comma_items list) >>= λ keys. short_value (Mandatory (ascending keys))
+    some_text text >>= λ list. read_items mandatory_item [] (comma_items list) >>= λ keys. short_value (Mandatory (in_ascending_order keys))
 
 abbrev pub alpn_value : List ℕ → Result Value ScanError
 alpn_value text = some_text text >>= protocols_of >>= λ protocols. short_value (Alpn protocols)

@@ -33,8 +33,8 @@ key_of (TlsSupportedGroups groups) = 9
 key_of (Unknown key octets) = key
 
 -- numbers of 16 bits, in order
-abbrev pub numbers_wire : List ℕ → List ℕ
-numbers_wire = flat_map be2
+abbrev pub numbers16_wire : List ℕ → List ℕ
+numbers16_wire = flat_map be2
 
 -- protocols in order, each behind its length
 abbrev pub protocols_wire : List (List ℕ) → List ℕ
@@ -42,7 +42,7 @@ protocols_wire = flat_map (λ protocol. length protocol ∷ protocol)
 
 -- a value's octets
 abbrev pub encode : Value → List ℕ
-encode (Mandatory keys) = numbers_wire keys
+encode (Mandatory keys) = numbers16_wire keys
 encode (Alpn protocols) = protocols_wire protocols
 encode NoDefaultAlpn = []
 encode (Port port) = be2 port
@@ -51,7 +51,7 @@ encode (Ech octets) = octets
 encode (Ipv6Hint addresses) = concat addresses
 encode (DohPath octets) = octets
 encode Ohttp = []
-encode (TlsSupportedGroups groups) = numbers_wire groups
+encode (TlsSupportedGroups groups) = numbers16_wire groups
 encode (Unknown key octets) = octets
 
 -- each item of a list is such an item

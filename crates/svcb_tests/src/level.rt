@@ -31,7 +31,7 @@ impl<'a> ParseSvcParamValue<'a> for Level {
     ghost reads = { λ _ octets. if nat_lt (length octets) 1 then Err Short else Ok (record { value = slice_index octets 0; len = 1 }) };
 
     fn parse_value(key: SvcParamKey, parser: &mut Parser<'a>) -> Result<Option<Level>, ParseError> {
-        let octets = parser.peek_all();
+        let octets = parser.remaining_octets();
         if u16::from(key) < SvcParamKey::PRIVATE_RANGE_BEGIN {
             return Ok(None);
         }

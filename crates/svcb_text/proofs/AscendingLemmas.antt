@@ -9,7 +9,7 @@ use Rattle.std.specs.BTreeMap.{is_at}
 use Rattle.std.specs.BTreeSet.{insert_key}
 use Rattle.std.proofs.lemmas.Bool.Decides.{nat_tests}
 use Rattle.std.specs.Cmp.{unsigned_tied}
-use Rattle.svcb_spec.specs.ValueTexts.{insert_ascending, ascending}
+use Rattle.svcb_spec.specs.ValueTexts.{insert_ascending, in_ascending_order}
 
 -- ---- tests
 
@@ -72,18 +72,18 @@ insert_key-new (m ∷ keys) k new =
 
 -- ---- numbers in ascending order
 
-pub has-ascending : (numbers : List ℕ) (n : ℕ) → has (ascending numbers) n ≡ has numbers n
+pub has-ascending : (numbers : List ℕ) (n : ℕ) → has (in_ascending_order numbers) n ≡ has numbers n
 has-ascending [] n = refl
-has-ascending (m ∷ numbers) n = has-insert_ascending m (ascending numbers) n ∙ ap (λ b. (m == n) || b) (has-ascending numbers n)
+has-ascending (m ∷ numbers) n = has-insert_ascending m (in_ascending_order numbers) n ∙ ap (λ b. (m == n) || b) (has-ascending numbers n)
 
 -- two numbers are at their places, whichever comes first
 insert_ascending-swap : (a b : ℕ) (numbers : List ℕ) → insert_ascending a (insert_ascending b numbers) ≡ insert_ascending b (insert_ascending a numbers)
 insert_ascending-swap a b [] = grind (arith, nat_tests)
 insert_ascending-swap a b (m ∷ numbers) = grind (arith, nat_tests, insert_ascending-swap a b numbers)
 
-pub ascending-last : (numbers : List ℕ) (n : ℕ) → ascending (numbers ++ n ∷ []) ≡ insert_ascending n (ascending numbers)
+pub ascending-last : (numbers : List ℕ) (n : ℕ) → in_ascending_order (numbers ++ n ∷ []) ≡ insert_ascending n (in_ascending_order numbers)
 ascending-last [] n = refl
-ascending-last (m ∷ numbers) n = ap (insert_ascending m) (ascending-last numbers n) ∙ insert_ascending-swap m n (ascending numbers)
+ascending-last (m ∷ numbers) n = ap (insert_ascending m) (ascending-last numbers n) ∙ insert_ascending-swap m n (in_ascending_order numbers)
 
 -- ---- a set that is to have a number
 

@@ -7,7 +7,7 @@ use Rattle.registry.specs.Texts.{spelled_key, spelled_number}
 use Rattle.text_spec.specs.declared.errors.ScanError.{ScanError}
 use Rattle.text_spec.specs.declared.errors.ScanError.TheVariants.{UnknownKey, BadNumber, DuplicateItem}
 use Rattle.svcb_spec.specs.ListTexts.{◌>>=◌, plain_item, read_items}
-use Rattle.svcb_spec.specs.ValueTexts.{new_item, other_key, mandatory_item, insert_ascending, ascending}
+use Rattle.svcb_spec.specs.ValueTexts.{new_item, other_key, mandatory_item, insert_ascending, in_ascending_order}
 use Rattle.svcb_text.specs.Lists.{add_items, add_last, add_key, read_group}
 use Rattle.svcb_text.proofs.AscendingLemmas.{has, has-ascending, ascending-last}
 
@@ -41,33 +41,33 @@ length-read_items rule before (item ∷ items) all is =
 
 -- a key is new among ascending keys where it is new among the keys as they were read
 key_added : (before : List ℕ) (items : List (List ℕ)) (k : ℕ)
-    → (add_items add_key (ascending (before ++ k ∷ [])) items ≡ (read_items mandatory_item (before ++ k ∷ []) items >>= λ keys. Ok (ascending keys)))
-    → ((new_item (ascending before) k >>= λ key. Ok (insert_ascending key (ascending before))) >>= λ more. add_items add_key more items)
-    ≡ ((new_item before k >>= λ x. read_items mandatory_item (before ++ x ∷ []) items) >>= λ keys. Ok (ascending keys))
+    → (add_items add_key (in_ascending_order (before ++ k ∷ [])) items ≡ (read_items mandatory_item (before ++ k ∷ []) items >>= λ keys. Ok (in_ascending_order keys)))
+    → ((new_item (in_ascending_order before) k >>= λ key. Ok (insert_ascending key (in_ascending_order before))) >>= λ more. add_items add_key more items)
+    ≡ ((new_item before k >>= λ x. read_items mandatory_item (before ++ x ∷ []) items) >>= λ keys. Ok (in_ascending_order keys))
 key_added before items k later =
     rw (has-ascending before k) (
-    elim (has before k) as (λ b. ((cond b (Err DuplicateItem) (Ok k) >>= λ key. Ok (insert_ascending key (ascending before))) >>= λ more. add_items add_key more items)
-    ≡ ((cond b (Err DuplicateItem) (Ok k) >>= λ x. read_items mandatory_item (before ++ x ∷ []) items) >>= λ keys. Ok (ascending keys))) [
+    elim (has before k) as (λ b. ((cond b (Err DuplicateItem) (Ok k) >>= λ key. Ok (insert_ascending key (in_ascending_order before))) >>= λ more. add_items add_key more items)
+    ≡ ((cond b (Err DuplicateItem) (Ok k) >>= λ x. read_items mandatory_item (before ++ x ∷ []) items) >>= λ keys. Ok (in_ascending_order keys))) [
       | true ↦ refl
       | false ↦ ap (λ (more : List ℕ). add_items add_key more items) (sym (ascending-last before k)) ∙ later
     ])
 
 -- keys are read in any order, and ascend
 pub add_items-keys : (before : List ℕ) (items : List (List ℕ))
-    → add_items add_key (ascending before) items ≡ (read_items mandatory_item before items >>= λ keys. Ok (ascending keys))
+    → add_items add_key (in_ascending_order before) items ≡ (read_items mandatory_item before items >>= λ keys. Ok (in_ascending_order keys))
 add_items-keys before [] = refl
 add_items-keys before (item ∷ items) =
-    elim (plain_item item) as (λ p. (p >>= λ text. add_key (ascending before) text >>= λ more. add_items add_key more items)
+    elim (plain_item item) as (λ p. (p >>= λ text. add_key (in_ascending_order before) text >>= λ more. add_items add_key more items)
     ≡ (((p >>= λ text. ok_or (spelled_key parameter_keys text) UnknownKey >>= λ key. other_key key >>= new_item before)
-    >>= λ x. read_items mandatory_item (before ++ x ∷ []) items) >>= λ keys. Ok (ascending keys))) [
+    >>= λ x. read_items mandatory_item (before ++ x ∷ []) items) >>= λ keys. Ok (in_ascending_order keys))) [
       | Err fault ↦ refl
       | Ok text ↦ elim (ok_or (spelled_key parameter_keys text) UnknownKey) as (λ r.
-          (((r >>= λ key. other_key key >>= new_item (ascending before)) >>= λ key. Ok (insert_ascending key (ascending before))) >>= λ more. add_items add_key more items)
-          ≡ (((r >>= λ key. other_key key >>= new_item before) >>= λ x. read_items mandatory_item (before ++ x ∷ []) items) >>= λ keys. Ok (ascending keys))) [
+          (((r >>= λ key. other_key key >>= new_item (in_ascending_order before)) >>= λ key. Ok (insert_ascending key (in_ascending_order before))) >>= λ more. add_items add_key more items)
+          ≡ (((r >>= λ key. other_key key >>= new_item before) >>= λ x. read_items mandatory_item (before ++ x ∷ []) items) >>= λ keys. Ok (in_ascending_order keys))) [
             | Err fault ↦ refl
             | Ok key ↦ elim (other_key key) as (λ r.
-                (((r >>= new_item (ascending before)) >>= λ k. Ok (insert_ascending k (ascending before))) >>= λ more. add_items add_key more items)
-                ≡ (((r >>= new_item before) >>= λ x. read_items mandatory_item (before ++ x ∷ []) items) >>= λ keys. Ok (ascending keys))) [
+                (((r >>= new_item (in_ascending_order before)) >>= λ k. Ok (insert_ascending k (in_ascending_order before))) >>= λ more. add_items add_key more items)
+                ≡ (((r >>= new_item before) >>= λ x. read_items mandatory_item (before ++ x ∷ []) items) >>= λ keys. Ok (in_ascending_order keys))) [
                   | Err fault ↦ refl
                   | Ok k ↦ key_added before items k (add_items-keys (before ++ k ∷ []) items)
                 ]

@@ -5,7 +5,7 @@ use Rattle.name_spec.specs.Addresses.{ipv4_of, ipv6_of}
 use Rattle.svcb_spec.specs.Values.{Value, Mandatory, Ipv4Hint, Ipv6Hint, TlsSupportedGroups}
 use Rattle.text_spec.specs.declared.errors.ScanError.{ScanError}
 use Rattle.svcb_spec.specs.ListTexts.{◌>>=◌, onto_piece, comma_pieces, comma_items, plain_item, read_items}
-use Rattle.svcb_spec.specs.ValueTexts.{some_text, short_value, mandatory_item, ascending, mandatory_value, ipv4hint_value, ipv6hint_value, groups_value}
+use Rattle.svcb_spec.specs.ValueTexts.{some_text, short_value, mandatory_item, in_ascending_order, mandatory_value, ipv4hint_value, ipv6hint_value, groups_value}
 use Rattle.svcb_text.specs.Lists.{read_list, add_items, add_last, add_key, read_address, read_group}
 use Rattle.svcb_text.proofs.ListLemmas.{add_items-last, add_items-keys, length-read_items}
 
@@ -31,13 +31,13 @@ pub groups_value-list : (text : List ℕ) → groups_value text ≡ (read_list (
 groups_value-list text = value_listed read_group TlsSupportedGroups text
 
 -- keys ascend when they are made a value
-keys_in_turn : (read : Result (List ℕ) ScanError) → (read >>= λ keys. short_value (Mandatory (ascending keys))) ≡ ((read >>= λ keys. Ok (ascending keys)) >>= λ keys. short_value (Mandatory keys))
+keys_in_turn : (read : Result (List ℕ) ScanError) → (read >>= λ keys. short_value (Mandatory (in_ascending_order keys))) ≡ ((read >>= λ keys. Ok (in_ascending_order keys)) >>= λ keys. short_value (Mandatory keys))
 keys_in_turn (Err fault) = refl
 keys_in_turn (Ok keys) = refl
 
 pub mandatory_value-list : (text : List ℕ) → mandatory_value text ≡ (read_list add_key [] text >>= λ keys. short_value (Mandatory keys))
 mandatory_value-list text =
-    elim (some_text text) as (λ s. (s >>= λ list. read_items mandatory_item [] (comma_items list) >>= λ keys. short_value (Mandatory (ascending keys)))
+    elim (some_text text) as (λ s. (s >>= λ list. read_items mandatory_item [] (comma_items list) >>= λ keys. short_value (Mandatory (in_ascending_order keys)))
     ≡ ((s >>= λ list. add_items add_key [] (comma_items list)) >>= λ keys. short_value (Mandatory keys))) [
       | Err fault ↦ refl
       | Ok list ↦ keys_in_turn (read_items mandatory_item [] (comma_items list))

@@ -4,7 +4,7 @@ use Rattle.std.specs.Prelude.{◌==◌, nat_lt, option_map}
 use Rattle.std.proofs.lemmas.Bool.Decides.{nat_tests}
 use Rattle.std.proofs.lemmas.List.{take_more}
 use Rattle.svcb_spec.specs.Values.{Value, Each, encode, protocols_wire}
-use Rattle.svcb_list.specs.Pushing.{IsProtocol, IsPushed}
+use Rattle.svcb_list.specs.Pushing.{IsProtocolLength, IsPushed}
 use Rattle.svcb_list.specs.declared.errors.BuildAlpnError.{BuildAlpnError}
 use Rattle.svcb_list.specs.declared.errors.BuildAlpnError.TheVariants as push_errors
 use Rattle.text_spec.specs.declared.errors.ScanError.{ScanError}
@@ -216,8 +216,8 @@ module _ (text : List ℕ) (left : Option (List ℕ)) (before : List (List ℕ))
       refused_first {U = List (List ℕ)} {V = List (List ℕ)} (λ x. x) fault (protocols_of text) (protocols_left left) (λ items. Ok (before ++ items)) so_far (refused_item left fault refused)
 
 -- each protocol is one
-pub each_protocol : (before : List (List ℕ)) (item : List ℕ) → Each (λ protocol. IsProtocol (length protocol)) before → 0 < length item → length item ≤ 255
-    → Each (λ protocol. IsProtocol (length protocol)) (before ++ item ∷ [])
+pub each_protocol : (before : List (List ℕ)) (item : List ℕ) → Each (λ protocol. IsProtocolLength (length protocol)) before → 0 < length item → length item ≤ 255
+    → Each (λ protocol. IsProtocolLength (length protocol)) (before ++ item ∷ [])
 each_protocol [] item each some short = (record { not_empty = some; fits = short }, tt)
 each_protocol (first ∷ before) item each some short = (each.0, each_protocol before item each.1 some short)
 
@@ -234,7 +234,7 @@ protocols_wire-front (suc n) [] = omega arith
 protocols_wire-front (suc n) (first ∷ protocols) =
     omega (arith, length-append first (protocols_wire (take n protocols)), length-append first (protocols_wire protocols), protocols_wire-front n protocols)
 
-pub protocol_at : (i : ℕ) (protocols : List (List ℕ)) (d : List ℕ) → Each (λ protocol. IsProtocol (length protocol)) protocols → i < length protocols → IsProtocol (length (get_or protocols i d))
+pub protocol_at : (i : ℕ) (protocols : List (List ℕ)) (d : List ℕ) → Each (λ protocol. IsProtocolLength (length protocol)) protocols → i < length protocols → IsProtocolLength (length (get_or protocols i d))
 protocol_at i [] d each within = absurd (omega arith)
 protocol_at zero (first ∷ protocols) d each within = each.0
 protocol_at (suc i) (first ∷ protocols) d each within = protocol_at i protocols d each.1 (omega arith)
@@ -247,7 +247,7 @@ protocols_exceed i protocols item within at over =
     omega (arith, protocols_wire-front (i + 1) protocols, protocols_wire-push (take i protocols) item, ap (λ (ps : List (List ℕ)). length (protocols_wire ps)) more)
 
 -- a push is refused for want of memory, or where the protocols exceed the limit
-pub push_answers : (error : BuildAlpnError) (old len : ℕ) (value : Value) → IsProtocol len → IsPushed {X = Unit {0}} (Err error) old len
+pub push_answers : (error : BuildAlpnError) (old len : ℕ) (value : Value) → IsProtocolLength len → IsPushed {X = Unit {0}} (Err error) old len
     → (65535 < old + 1 + len → 65535 < length (encode value)) → Answers {T = Value} (λ v. v) (Err (protocol_fault error)) (short_value value)
 push_answers push_errors.InvalidProtocol old len value is refused over = absurd (refused is)
 push_answers push_errors.LongSvcParam old len value is refused over = short_value-long value (over refused.1)

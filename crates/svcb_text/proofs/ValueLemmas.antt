@@ -14,7 +14,7 @@ use Rattle.text_spec.specs.declared.errors.ScanError.{ScanError}
 use Rattle.text_spec.specs.declared.errors.ScanError.TheVariants.{BadUtf8, LongValue}
 use Rattle.text_spec.specs.Scanning.{Answers}
 use Rattle.svcb_spec.specs.ValueTexts.{short_value, utf8_text}
-use Rattle.svcb_text.specs.ValueFaults.{fault_of}
+use Rattle.svcb_text.specs.ValueFaults.{scan_fault_of}
 
 -- ---- UTF-8
 
@@ -41,7 +41,7 @@ short_value-long value long =
 
 -- a value that is not made is too long, unless memory is wanting
 pub cause_answers : (error : BuildValueError) (value : Value) → IsCause (length (encode value)) error
-    → Answers {T = Value} (λ v. v) (Err (fault_of error)) (short_value value)
+    → Answers {T = Value} (λ v. v) (Err (scan_fault_of error)) (short_value value)
 cause_answers LongSvcParam value cause = short_value-long value cause
 cause_answers ShortBuf value cause = absurd cause
 cause_answers EmptyValue value cause = absurd cause
@@ -49,12 +49,12 @@ cause_answers NoMemory value cause = tt
 
 -- what is made of a value whose octets are counted answers as the value does
 module _ (made : Result Value BuildValueError) (outcome : Result Value ScanError) (value : Value)
-    (is : IfOk made (λ v. v ≡ value)) (passed : outcome ≡ result_map_both (λ v. v) fault_of made) where
+    (is : IfOk made (λ v. v ≡ value)) (passed : outcome ≡ result_map_both (λ v. v) scan_fault_of made) where
   pub caused_answers : OnOk made (length (encode value) ≤ 65535) → IfErr made (IsCause (length (encode value))) → Answers {T = Value} (λ v. v) outcome (short_value value)
   caused_answers short cause = rw passed (answer made is short cause)
     where
       answer : (made : Result Value BuildValueError) → IfOk made (λ v. v ≡ value) → OnOk made (length (encode value) ≤ 65535) → IfErr made (IsCause (length (encode value)))
-          → Answers {T = Value} (λ v. v) (result_map_both (λ v. v) fault_of made) (short_value value)
+          → Answers {T = Value} (λ v. v) (result_map_both (λ v. v) scan_fault_of made) (short_value value)
       answer (Ok v) is short cause = short_value-ok value short ∙ ap (λ (v : Value). Ok v) (sym is)
       answer (Err error) is short cause = cause_answers error value cause
 
@@ -78,7 +78,7 @@ built_not_empty (Err EmptyValue) len some built = absurd (omega arith)
 built_not_empty (Err NoMemory) len some built = built.1
 
 pub built_answers : (made : Result Value BuildValueError) (outcome : Result Value ScanError) (value : Value) (len : ℕ) → IfOk made (λ v. v ≡ value)
-    → outcome ≡ result_map_both (λ v. v) fault_of made → length (encode value) ≡ len → IsBuilt made len → Answers {T = Value} (λ v. v) outcome (short_value value)
+    → outcome ≡ result_map_both (λ v. v) scan_fault_of made → length (encode value) ≡ len → IsBuilt made len → Answers {T = Value} (λ v. v) outcome (short_value value)
 built_answers made outcome value len is passed count built =
     let counted : IsBuilt made (length (encode value)) = subst (λ (n : ℕ). IsBuilt made n) (sym count) built in
     caused_answers made outcome value is passed (built_short made (length (encode value)) counted) (built_cause made (length (encode value)) counted)

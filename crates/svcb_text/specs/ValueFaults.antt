@@ -7,9 +7,9 @@ use Rattle.text_spec.specs.declared.errors.ScanError.{ScanError}
 use Rattle.text_spec.specs.declared.errors.ScanError.TheVariants as faults
 
 -- want of memory stays, and every other cause is the value's length
-abbrev pub fault_of : BuildValueError → ScanError
-fault_of NoMemory = faults.NoMemory
-fault_of error = faults.LongValue
+abbrev pub scan_fault_of : BuildValueError → ScanError
+scan_fault_of NoMemory = faults.NoMemory
+scan_fault_of error = faults.LongValue
 
 -- the same of protocols
 abbrev pub protocol_fault : BuildAlpnError → ScanError

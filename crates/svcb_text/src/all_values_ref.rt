@@ -128,7 +128,7 @@ impl<'a> ParseSvcParamValue<'a> for AllValuesRef<'a> {
         parser: &mut Parser<'a>,
     ) -> Result<Option<AllValuesRef<'a>>, ParseError> {
         // the parser stands within its data
-        let _left = parser.peek_all();
+        let _left = parser.remaining_octets();
         match key {
             SvcParamKey::MANDATORY => Ok(Some(AllValuesRef::Mandatory(MandatoryRef::parse(
                 parser,

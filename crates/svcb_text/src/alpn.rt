@@ -3,7 +3,7 @@
 ghost use Rattle.std.specs.Prelude.{◌≡◌, ◌<◌, ◌==◌, length, IfOk};
 ghost use Rattle.svcb_spec.specs.Values as values;
 ghost use Rattle.svcb_spec.specs.Values.{Each};
-ghost use Rattle.svcb_list.specs.Pushing.{IsProtocol};
+ghost use Rattle.svcb_list.specs.Pushing.{IsProtocolLength};
 ghost use Rattle.text_spec.specs.Scanning.{Answers};
 ghost use Rattle.svcb_spec.specs.ValueTexts.{alpn_value, protocols_of, short_value};
 
@@ -31,7 +31,7 @@ fn read_protocols(alloc: Global, text: &[u8]) -> Result<Vec<Octets>, ScanError>
     requires { 0 < length text.now }
     ensures answer { Answers (λ list. list.items) result (protocols_of text.now) }
     ensures each { IfOk result
-        (λ list. Each (λ protocol. IsProtocol (length protocol)) list.items) }
+        (λ list. Each (λ protocol. IsProtocolLength (length protocol)) list.items) }
 {
     let mut items = SvcParamValueScanIter::from_slice(text);
     let mut protocols = Vec::new(alloc);
@@ -47,7 +47,7 @@ fn read_protocols(alloc: Global, text: &[u8]) -> Result<Vec<Octets>, ScanError>
 /// The value of protocols. Refused, as `LongValue`, exactly where it has more than 65,535 octets, else for want of
 /// memory alone.
 fn build_alpn(alloc: Global, protocols: &[Octets]) -> Result<Alpn, ScanError>
-    requires { Each (λ protocol. IsProtocol (length protocol)) protocols.now }
+    requires { Each (λ protocol. IsProtocolLength (length protocol)) protocols.now }
     ensures { Answers (λ value. value) result (short_value (values.Alpn protocols.now)) }
 {
     let mut builder = AlpnBuilder::empty(alloc);

@@ -2,7 +2,7 @@
 
 ghost use Rattle.std.specs.Prelude.{◌≡◌, ◌<◌, ◌≤◌, IfErr, OnOk};
 ghost use Rattle.std.specs.Result.{result_map_both};
-ghost use Rattle.svcb_text.specs.ValueFaults.{fault_of, protocol_fault};
+ghost use Rattle.svcb_text.specs.ValueFaults.{scan_fault_of, protocol_fault};
 
 use registry::{BuildValueError, LongSvcParam};
 use svcb_list::BuildAlpnError;
@@ -21,7 +21,7 @@ pub(crate) fn check_value_len(len: usize) -> Result<(), ScanError>
 
 /// The fault of a text whose value was not made: want of memory stays, and every other cause is the value's length.
 pub(crate) fn value_fault(error: BuildValueError) -> ScanError
-    ensures { result ≡ fault_of error }
+    ensures { result ≡ scan_fault_of error }
 {
     match error {
         BuildValueError::NoMemory => ScanError::NoMemory,
@@ -31,7 +31,7 @@ pub(crate) fn value_fault(error: BuildValueError) -> ScanError
 
 /// A value that was made, or why the text is refused.
 pub(crate) fn or_fault<V>(made: Result<V, BuildValueError>) -> Result<V, ScanError>
-    ensures { result ≡ result_map_both (λ value. value) fault_of made }
+    ensures { result ≡ result_map_both (λ value. value) scan_fault_of made }
 {
     made.map_err(value_fault)
 }

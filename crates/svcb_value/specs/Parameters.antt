@@ -25,7 +25,7 @@ take_param octets =
     else Ok (taking_param (Unknown (number_at octets 0) (slice_range octets 4 (4 + number_at octets 2))))
 
 -- octets begin with the parameter of a key and a value, and the rest stands behind it
-pub record Begins (octets : List ℕ) (number : ℕ) (held behind : List ℕ) : Type 0 where
+pub record BeginsParameter (octets : List ℕ) (number : ℕ) (held behind : List ℕ) : Type 0 where
   pub key : number ≡ number_at octets 0
   pub len : length held ≡ number_at octets 2
   pub value : held ≡ slice_range octets 4 (4 + length held)

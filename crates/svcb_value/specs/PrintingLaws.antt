@@ -3,7 +3,7 @@ use Rattle.std.proofs.Common.{◌≡◌, ℕ, ◌==◌, true, false, Bool, cond,
 use Rattle.std.specs.Str.{is_utf8}
 use Rattle.std.proofs.lemmas.Bool.Decides.{nat_tests}
 use Rattle.base64.specs.Rfc4648.{encode_symbols}
-use Rattle.name_spec.specs.Printed.{Written, Plain, Escaped, Decimal, written, is_special, printed_as, printed_octets}
+use Rattle.name_spec.specs.Printed.{Written, Plain, Escaped, Decimal, octet_text, is_special, printed_as, printed_octets}
 use Rattle.text_spec.specs.Encodings.{base64_text}
 use Rattle.svcb_spec.specs.PrintedValues.{with_text, utf8_or_printed}
 use Rattle.svcb_value.specs.Printing.{key_and_text}
@@ -12,7 +12,7 @@ use Rattle.svcb_value.specs.Printing.{key_and_text}
 some_octets : (c : ℕ) (text : List ℕ) → (length (c ∷ text) == 0) ≡ false
 some_octets c text = grind (arith, nat_tests)
 
-some_written : (w : Written) (text : List ℕ) → (length (written w ++ text) == 0) ≡ false
+some_written : (w : Written) (text : List ℕ) → (length (octet_text w ++ text) == 0) ≡ false
 some_written (Plain c) text = some_octets c text
 some_written (Escaped c) text = some_octets 92 (c ∷ text)
 some_written (Decimal c) text = grind (arith, nat_tests)

@@ -5,7 +5,7 @@ ghost use Rattle.std.specs.Fmt.{WritesOnOk};
 ghost use Rattle.svcb_spec.specs.Values.{Value, key_of, encode, HasItems, IsValue};
 ghost use Rattle.svcb_spec.specs.ReadingValues.{taking_all, whole_value, long_fault};
 ghost use Rattle.wire_base.specs.Faults.{GivesCopy};
-ghost use Rattle.wire_base.specs.Input.{left};
+ghost use Rattle.wire_base.specs.Input.{octets_left};
 ghost use Rattle.wire_base.specs.Moving.{TakesAll, AppendsOctets};
 ghost use Rattle.svcb_spec.specs.PrintedValues.{value_printed, key_name};
 ghost use Rattle.svcb_value.specs.Printing.{key_and_text};
@@ -97,11 +97,11 @@ impl<T: OpaqueType> OpaqueValue<T> {
     /// The value of all octets that remain. Refused as `Form` exactly where more than 65,535 remain, else for want of
     /// memory alone; the parser then stays.
     pub fn parse(alloc: Global, parser: &mut Parser<'_>) -> Result<OpaqueValue<T>, ParseError>
-        ensures answer { GivesCopy (taking_all (left parser.old)) result
-            (whole_value long_fault T.value (left parser.old)) }
+        ensures answer { GivesCopy (taking_all (octets_left parser.old)) result
+            (whole_value long_fault T.value (octets_left parser.old)) }
         ensures takes { TakesAll parser.old parser.new result }
     {
-        let slice = parser.peek_all();
+        let slice = parser.remaining_octets();
         LongSvcParam::check_len(slice.len())?;
         let octets = Octets::from_slice(alloc, slice)?;
         parser.advance_to_end();

@@ -4,7 +4,7 @@ ghost use Rattle.std.specs.Prelude.{◌≡◌, ◌==◌, ℕ, List, ◌≤◌, �
 ghost use Rattle.svcb_spec.specs.Values.{Value, key_of, encode, IsValue};
 ghost use Rattle.svcb_spec.specs.ReadingValues.{taking_all, whole_value, long_fault};
 ghost use Rattle.wire_base.specs.Faults.{Gives};
-ghost use Rattle.wire_base.specs.Input.{left};
+ghost use Rattle.wire_base.specs.Input.{octets_left};
 ghost use Rattle.wire_base.specs.Moving.{TakesAll, AppendsOctets};
 ghost use Rattle.svcb_spec.specs.PrintedValues.{value_printed};
 
@@ -57,11 +57,11 @@ impl<'a, T: OpaqueType> OpaqueRef<'a, T> {
     /// The value of all octets that remain. Refused as `Form` exactly where more than 65,535 remain; the parser then
     /// stays.
     pub fn parse(parser: &mut Parser<'a>) -> Result<OpaqueRef<'a, T>, ParseError>
-        ensures answer { Gives (λ view. taking_all (left parser.old) (T.value view.slice.now))
-            result (whole_value long_fault T.value (left parser.old)) }
+        ensures answer { Gives (λ view. taking_all (octets_left parser.old) (T.value view.slice.now))
+            result (whole_value long_fault T.value (octets_left parser.old)) }
         ensures takes { TakesAll parser.old parser.new result }
     {
-        let slice = parser.peek_all();
+        let slice = parser.remaining_octets();
         LongSvcParam::check_len(slice.len())?;
         parser.advance_to_end();
         Ok(OpaqueRef {
@@ -120,7 +120,7 @@ impl<'a, T: OpaqueType> ParseSvcParamValue<'a> for OpaqueRef<'a, T> {
         if key != T::key() {
             return Ok(None);
         }
-        let view = OpaqueRef::from_slice(parser.peek_all())?;
+        let view = OpaqueRef::from_slice(parser.remaining_octets())?;
         parser.advance_to_end();
         Ok(Some(view))
     }

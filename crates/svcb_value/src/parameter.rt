@@ -4,21 +4,21 @@ ghost use Rattle.std.specs.Prelude.{◌≡◌, ◌+◌, ◌≤◌, ◌<◌, ◌+
 ghost use Rattle.name_spec.specs.Octets.{Short, be2};
 ghost use Rattle.svcb_spec.specs.Params.{pair_wire};
 ghost use Rattle.wire_base.specs.Moving.{AppendsOctets, LacksRoom};
-ghost use Rattle.svcb_value.specs.Parameters.{take_param, Begins};
+ghost use Rattle.svcb_value.specs.Parameters.{take_param, BeginsParameter};
 
 use wire_base::{NoMemory, Parser, ShortInput};
 
 /// The key and the value of the parameter that octets begin with, and the octets behind it. Refused exactly where one
 /// of the parameter's parts runs past the end.
 pub fn split_param(octets: &[u8]) -> Result<(u16, &[u8], &[u8]), ShortInput>
-    ensures begins { IfOk result (λ parts. Begins octets.now parts.0 parts.1.now parts.2.now) }
+    ensures begins { IfOk result (λ parts. BeginsParameter octets.now parts.0 parts.1.now parts.2.now) }
     ensures short { OnErr result (take_param octets.now ≡ Err Short) }
 {
     let mut parser = Parser::from_ref(octets);
     let key = parser.parse_u16()?;
     let len = parser.parse_u16()?;
     let value = parser.parse_octets(usize::from(len))?;
-    Ok((key, value, parser.peek_all()))
+    Ok((key, value, parser.remaining_octets()))
 }
 
 /// Appends the two octets of a number, for which there is room.

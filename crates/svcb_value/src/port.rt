@@ -5,7 +5,7 @@ ghost use Rattle.name_spec.specs.Octets.{be2};
 ghost use Rattle.svcb_spec.specs.Values as values;
 ghost use Rattle.svcb_spec.specs.ReadingValues.{take_port};
 ghost use Rattle.wire_base.specs.Faults.{Gives};
-ghost use Rattle.wire_base.specs.Input.{left};
+ghost use Rattle.wire_base.specs.Input.{octets_left};
 ghost use Rattle.wire_base.specs.Moving.{TakesOctets, AppendsOctets};
 ghost use Rattle.svcb_spec.specs.PrintedValues.{value_printed};
 
@@ -51,7 +51,7 @@ impl Port {
     #[tactic(auto, using(crate::proofs::Ports::port_rules))]
     pub fn parse(parser: &mut Parser<'_>) -> Result<Port, ParseError>
         ensures answer { Gives (λ port. record { value = values.Port port; len = 2 }) result
-            (take_port (left parser.old)) }
+            (take_port (octets_left parser.old)) }
         ensures takes { TakesOctets parser.old parser.new 2 result }
     {
         let octets = parser.parse_octets(2)?;

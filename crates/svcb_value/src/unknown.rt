@@ -5,9 +5,9 @@ ghost use Rattle.svcb_spec.specs.Values as values;
 ghost use Rattle.svcb_spec.specs.Params.{pair_wire};
 ghost use Rattle.svcb_spec.specs.ReadingValues.{taking_all, whole_value, long_fault};
 ghost use Rattle.wire_base.specs.Faults.{GivesCopy};
-ghost use Rattle.wire_base.specs.Input.{left};
+ghost use Rattle.wire_base.specs.Input.{octets_left};
 ghost use Rattle.wire_base.specs.Moving.{TakesAll, AppendsOctets, LacksRoom};
-ghost use Rattle.registry.specs.Reading.{behind};
+ghost use Rattle.registry.specs.Reading.{input_behind};
 ghost use Rattle.svcb_value.specs.Parameters.{take_param, taking_param, param_len, param_wire};
 ghost use Rattle.svcb_spec.specs.PrintedValues.{value_printed};
 
@@ -44,7 +44,7 @@ impl Model for UnknownSvcParam {
 impl UnknownSvcParam {
     ghost use Rattle.std.specs.Borrow.{sem};
     ghost use Rattle.svcb_value.specs.UnknownView.{seen_unknown};
-    ghost use Rattle.svcb_value.specs.Lending.{LendsOctets};
+    ghost use Rattle.svcb_value.specs.Lending.{LendsValueOctets};
 
     /// The value of a key. Refused, as `LongSvcParam`, exactly where it has more than 65,535 octets; it is then dropped.
     pub fn new(key: SvcParamKey, value: Octets) -> Result<UnknownSvcParam, LongSvcParam>
@@ -63,11 +63,11 @@ impl UnknownSvcParam {
         key: SvcParamKey,
         parser: &mut Parser<'_>,
     ) -> Result<UnknownSvcParam, ParseError>
-        ensures answer { GivesCopy (taking_all (left parser.old)) result
-            (whole_value long_fault (values.Unknown key) (left parser.old)) }
+        ensures answer { GivesCopy (taking_all (octets_left parser.old)) result
+            (whole_value long_fault (values.Unknown key) (octets_left parser.old)) }
         ensures takes { TakesAll parser.old parser.new result }
     {
-        let slice = parser.peek_all();
+        let slice = parser.remaining_octets();
         LongSvcParam::check_len(slice.len())?;
         let value = Octets::from_slice(alloc, slice)?;
         parser.advance_to_end();
@@ -80,11 +80,11 @@ impl UnknownSvcParam {
         alloc: Global,
         parser: &mut Parser<'_>,
     ) -> Result<UnknownSvcParam, ParseError>
-        ensures answer { GivesCopy taking_param result (take_param (left parser.old)) }
-        ensures ok { IfOk result (λ param. parser.new ≡ behind parser.old (param_len param)) }
+        ensures answer { GivesCopy taking_param result (take_param (octets_left parser.old)) }
+        ensures ok { IfOk result (λ param. parser.new ≡ input_behind parser.old (param_len param)) }
         ensures err { OnErr result (parser.new ≡ parser.old) }
     {
-        let (key, slice, _) = split_param(parser.peek_all())?;
+        let (key, slice, _) = split_param(parser.remaining_octets())?;
         let value = Octets::from_slice(alloc, slice)?;
         parser.advance(4 + slice.len())?;
         Ok(UnknownSvcParam {
@@ -121,7 +121,7 @@ impl UnknownSvcParam {
 
     /// The octets for writing. What is written stays; the key and the count of octets are as before.
     pub fn as_slice_mut(&mut self) -> &mut [u8]
-        ensures* writes_back { sem 𝓛 (LendsOctets self.entry result) }
+        ensures* writes_back { sem 𝓛 (LendsValueOctets self.entry result) }
         ensures octets { result.now ≡ values.encode self.old }
     {
         self.value.as_slice_mut()

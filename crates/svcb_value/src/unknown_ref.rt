@@ -28,9 +28,9 @@ impl<'a> UnknownSvcParamRef<'a> {
     ghost use Rattle.svcb_spec.specs.Params.{pair_wire};
     ghost use Rattle.svcb_spec.specs.ReadingValues.{taking_all, whole_value, long_fault};
     ghost use Rattle.wire_base.specs.Faults.{Gives};
-    ghost use Rattle.wire_base.specs.Input.{left};
+    ghost use Rattle.wire_base.specs.Input.{octets_left};
     ghost use Rattle.wire_base.specs.Moving.{TakesAll, AppendsOctets, LacksRoom};
-    ghost use Rattle.registry.specs.Reading.{behind};
+    ghost use Rattle.registry.specs.Reading.{input_behind};
     ghost use Rattle.svcb_value.specs.Parameters.{take_param, taking_param, param_len, param_wire};
     ghost use Rattle.svcb_value.specs.UnknownView.{seen_unknown};
 
@@ -54,11 +54,11 @@ impl<'a> UnknownSvcParamRef<'a> {
         key: SvcParamKey,
         parser: &mut Parser<'a>,
     ) -> Result<UnknownSvcParamRef<'a>, ParseError>
-        ensures answer { Gives (λ view. taking_all (left parser.old) (seen_unknown view)) result
-            (whole_value long_fault (values.Unknown key) (left parser.old)) }
+        ensures answer { Gives (λ view. taking_all (octets_left parser.old) (seen_unknown view)) result
+            (whole_value long_fault (values.Unknown key) (octets_left parser.old)) }
         ensures takes { TakesAll parser.old parser.new result }
     {
-        let view = UnknownSvcParamRef::new(key, parser.peek_all())?;
+        let view = UnknownSvcParamRef::new(key, parser.remaining_octets())?;
         parser.advance_to_end();
         Ok(view)
     }
@@ -67,12 +67,12 @@ impl<'a> UnknownSvcParamRef<'a> {
     /// where one of them runs past the end; the parser then stays.
     pub fn parse_param(parser: &mut Parser<'a>) -> Result<UnknownSvcParamRef<'a>, ParseError>
         ensures answer { Gives (λ view. taking_param (seen_unknown view)) result
-            (take_param (left parser.old)) }
+            (take_param (octets_left parser.old)) }
         ensures ok { IfOk result (λ view. parser.new
-            ≡ behind parser.old (param_len (seen_unknown view))) }
+            ≡ input_behind parser.old (param_len (seen_unknown view))) }
         ensures err { OnErr result (parser.new ≡ parser.old) }
     {
-        let (key, slice, _) = split_param(parser.peek_all())?;
+        let (key, slice, _) = split_param(parser.remaining_octets())?;
         parser.advance(4 + slice.len())?;
         Ok(UnknownSvcParamRef { key, slice })
     }
@@ -144,7 +144,7 @@ impl<'a> ParseSvcParamValue<'a> for UnknownSvcParamRef<'a> {
         key: SvcParamKey,
         parser: &mut Parser<'a>,
     ) -> Result<Option<UnknownSvcParamRef<'a>>, ParseError> {
-        let view = UnknownSvcParamRef::new(key, parser.peek_all())?;
+        let view = UnknownSvcParamRef::new(key, parser.remaining_octets())?;
         parser.advance_to_end();
         Ok(Some(view))
     }

@@ -13,7 +13,7 @@ use Rattle.hex.proofs.HexLemmas.{decode_of-ok, decode_of-encode_lower, length-en
 use Rattle.name_spec.specs.Octets.{Fault, Form, Short}
 use Rattle.svcb_spec.specs.Records.{Record, rdata, read}
 use Rattle.svcb_spec.specs.Laws.{RecordReadBack}
-use Rattle.wire_base.specs.Input.{left}
+use Rattle.wire_base.specs.Input.{octets_left}
 use Rattle.wire_base.specs.RecordReading.{DataRead}
 use Rattle.wire_records.specs.Reading.{address_read, next_octets, unknown_read}
 use Rattle.wire_records.specs.UnknownView.{UnknownData}
@@ -28,11 +28,11 @@ use Rattle.text_spec.proofs.Again.{has_tokens}
 use Rattle.record_spec.specs.Rows as rows
 use Rattle.record_spec.specs.Rows.{Row, Data, sshfp, tlsa, cds, cdnskey, openpgpkey, zonemd}
 use Rattle.record_spec.specs.Wire.{reaching, read_data}
-use Rattle.record_spec.specs.Texts.{data_printed}
+use Rattle.record_spec.specs.Texts.{fields_printed}
 use Rattle.record_spec.specs.Ipseckeys.{IsAddress}
 use Rattle.record_spec.specs.IpseckeyWire.{ipseckey_read}
-use Rattle.record_laws.specs.RecordLaws.{IsTextOf, ReadComposedBack, IpseckeyComposedBack}
-use Rattle.svcb_laws.specs.DataTextLaws.{IsData, ReadIsData}
+use Rattle.record_laws.specs.RecordLaws.{IsScannedAs, FieldsComposedBack, IpseckeyComposedBack}
+use Rattle.svcb_laws.specs.DataTextLaws.{IsRecordOfOctets, ReadIsData}
 use Rattle.svcb_laws.proofs.Lines.{line_again}
 use Rattle.svcb_laws.specs.TextLengthLaws.{DataLineFits}
 use Rattle.svcb_laws.proofs.AddressLengths.{ipv4-length, ipv6-length}
@@ -42,15 +42,15 @@ use Rattle.record_spec.specs.UnionReading.{read_as}
 use Rattle.record_spec.specs.UnionTexts.{union_scan, union_printed}
 use Rattle.record_laws.specs.UnionLaws.{IsUnionData, UnionTextReadBack}
 use Rattle.devices.specs.declared.transfer.TheConstants.{MAX_INPUT}
-use Rattle.svcbedit.specs.Commands.{answer_of, reads, answer_to, due}
-use Rattle.svcbedit.specs.Laws.{hexadecimal, due_to_show, due_to_scan, ShownIsScannedBack, TypesAreScannedBack, AllDataBack}
+use Rattle.svcbedit.specs.Commands.{answer_of, is_reading, answer_to, due}
+use Rattle.svcbedit.specs.Laws.{data_hexadecimal, due_to_show, due_to_scan, ShownIsScannedBack, TypesAreScannedBack, AllDataBack}
 use Rattle.svcbedit.specs.Lines.{pieces, lines, without_empty_last}
 use Rattle.svcbedit.specs.Pushes.{hexadecimal_octets}
-use Rattle.svcbedit.specs.Spelling.{needed, unless, ◌>>=◌}
+use Rattle.svcbedit.specs.Spelling.{line_or_fault, first_fault_or, ◌>>=◌}
 use Rattle.svcbedit.specs.Report as report
 use Rattle.svcbedit.specs.Report.{too_long}
 use Rattle.svcbedit.specs.Scan.{entry_scanned, data_scanned}
-use Rattle.svcbedit.specs.Show.{second_fault, only_line, spelled_octets, whole_message, wholly_read, data_in, data_shown, spelled_shown, shown}
+use Rattle.svcbedit.specs.Show.{second_fault, only_line, spelled_octets, whole_message, whole_data, data_in, data_shown, spelled_show_answer, show_answer}
 use Rattle.svcbedit.specs.declared.spelling.InputFault.{InputFault}
 use Rattle.svcbedit.specs.declared.words.Command.{Command}
 use Rattle.svcbedit.specs.declared.words.Command.TheVariants.{Show, Scan}
@@ -59,7 +59,7 @@ use Rattle.svcbedit.proofs.ReadData.{AreSmall, octets_from, label_octets, rdata_
 -- ---- inputs that aren't too long
 
 -- what is due to a command with such an input
-due-short : (command : Command) (input : List ℕ) → reads command ≡ true → length input ≤ MAX_INPUT → due (Some command) (Some input) ≡ Some (answer_of command input)
+due-short : (command : Command) (input : List ℕ) → is_reading command ≡ true → length input ≤ MAX_INPUT → due (Some command) (Some input) ≡ Some (answer_of command input)
 due-short command input read few =
     let short : nat_lt MAX_INPUT (length input) ≡ false = grind (arith, nat_tests) in
     ap (λ is. option_map (answer_to command) (if is then Some input else Some [])) read
@@ -67,18 +67,18 @@ due-short command input read few =
 
 scan_due : (rtype : ℕ) (input : List ℕ) (answer : report.Answer) → answer_of (Scan rtype) input ≡ answer → length input ≤ MAX_INPUT
     → due_to_scan rtype input ≡ Some answer
-unfolding reads
+unfolding is_reading
 scan_due rtype input answer is few = due-short (Scan rtype) input refl few ∙ ap (λ a. Some a) is
 
 show_due : (rtype : ℕ) (input : List ℕ) (answer : report.Answer) → answer_of (Show rtype) input ≡ answer → length input ≤ MAX_INPUT
     → due_to_show rtype input ≡ Some answer
-unfolding reads
+unfolding is_reading
 show_due rtype input answer is few = due-short (Show rtype) input refl few ∙ ap (λ a. Some a) is
 
 -- an input that is too long has another status
 shown_short : (rtype : ℕ) (input : List ℕ) (answer : report.Answer) → due_to_show rtype input ≡ Some answer → answer.status ≡ 0
     → answer_of (Show rtype) input ≡ answer
-unfolding reads
+unfolding is_reading
 shown_short rtype input answer is good = elim (cases_lt MAX_INPUT (length input)) [
   | inl long ↦ absurd (let test : nat_lt MAX_INPUT (length input) ≡ true = grind (arith, nat_tests) in grind (arith))
   | inr few ↦ let known = show_due rtype input (answer_of (Show rtype) input) refl (omega arith) in cc
@@ -93,7 +93,7 @@ record IsShortData (rtype : ℕ) (found : RecordData) : Type 0 where
   fits : length (report.line (union_printed found)) < 16777216
 
 -- the line of a text is scanned as the text is
-line_scanned : (rtype : ℕ) (text : List ℕ) (found : RecordData) → IsTextOf (union_scan rtype) text found
+line_scanned : (rtype : ℕ) (text : List ℕ) (found : RecordData) → IsScannedAs (union_scan rtype) text found
     → entry_scanned (union_scan rtype) (report.line text) ≡ Ok found
 line_scanned rtype text found is =
     let line = report.line text in
@@ -104,10 +104,10 @@ line_scanned rtype text found is =
     ∙ ap (λ (scanned : Scanned RecordData). scanned.outcome) (is.scanned tokens is.has.1)
 
 scanned_back : UnionTextReadBack → (rtype : ℕ) (found : RecordData) (text : List ℕ) → IsShortData rtype found → text ≡ report.line (union_printed found)
-    → due_to_scan rtype text ≡ Some (report.done (hexadecimal found))
+    → due_to_scan rtype text ≡ Some (report.done_answer (data_hexadecimal found))
 unfolding answer_of
 scanned_back texts rtype found text is text_is =
-    let is_text = subst (λ n. IsTextOf (union_scan n) (union_printed found) found) is.number (texts found is.is_data) in
+    let is_text = subst (λ n. IsScannedAs (union_scan n) (union_printed found) found) is.number (texts found is.is_data) in
     scan_due rtype text _ (ap (answer_of (Scan rtype)) text_is ∙ ap data_scanned (line_scanned rtype (union_printed found) found is_text))
     (let fits = is.fits in subst (λ (line : List ℕ). length line ≤ MAX_INPUT) (sym text_is) (omega arith))
 
@@ -118,16 +118,16 @@ abbrev IsReadShort : ℕ → Type 0
 IsReadShort rtype = (octets : List ℕ) (found : RecordData) → AreSmall octets → data_in rtype octets ≡ Ok found
     → IsShortData rtype found
 
-read_shown : (r : Result RecordData Fault) → (data_shown r).status ≡ 0 → (found : RecordData) × (r ≡ Ok found) × (data_shown r ≡ report.done (union_printed found))
+read_shown : (r : Result RecordData Fault) → (data_shown r).status ≡ 0 → (found : RecordData) × (r ≡ Ok found) × (data_shown r ≡ report.done_answer (union_printed found))
 read_shown (Ok found) is = (found, refl, refl)
 read_shown (Err fault) is = absurd (omega (arith, is))
 
-spelled_read : (rtype : ℕ) (spelled : Result (List ℕ) InputFault) → (spelled_shown rtype spelled).status ≡ 0
-    → (octets : List ℕ) × (spelled ≡ Ok octets) × ((data_shown (data_in rtype octets)).status ≡ 0) × (spelled_shown rtype spelled ≡ data_shown (data_in rtype octets))
+spelled_read : (rtype : ℕ) (spelled : Result (List ℕ) InputFault) → (spelled_show_answer rtype spelled).status ≡ 0
+    → (octets : List ℕ) × (spelled ≡ Ok octets) × ((data_shown (data_in rtype octets)).status ≡ 0) × (spelled_show_answer rtype spelled ≡ data_shown (data_in rtype octets))
 spelled_read rtype (Ok octets) is = (octets, refl, is, refl)
 spelled_read rtype (Err fault) is = absurd (omega (arith, is))
 
-some_needed : (line : Option (List ℕ)) (second : Option InputFault) (octets : List ℕ) → (needed 1 line >>= λ x. unless second (Ok x)) ≡ Ok octets → line ≡ Some octets
+some_needed : (line : Option (List ℕ)) (second : Option InputFault) (octets : List ℕ) → (line_or_fault 1 line >>= λ x. first_fault_or second (Ok x)) ≡ Ok octets → line ≡ Some octets
 some_needed None second octets is = absurd cc
 some_needed (Some x) (Some fault) octets is = absurd cc
 some_needed (Some x) None octets is = cc
@@ -147,14 +147,14 @@ spelled_small all octets is =
 shown_back : UnionTextReadBack → (rtype : ℕ) → IsReadShort rtype → ShownIsScannedBack rtype
 unfolding answer_of
 shown_back texts rtype short input answer due_is good =
-    let answer_is : shown rtype input ≡ answer = shown_short rtype input answer due_is good in
-    let shows : (shown rtype input).status ≡ 0 = ap (λ (a : report.Answer). a.status) answer_is ∙ good in
+    let answer_is : show_answer rtype input ≡ answer = shown_short rtype input answer due_is good in
+    let shows : (show_answer rtype input).status ≡ 0 = ap (λ (a : report.Answer). a.status) answer_is ∙ good in
     let given = spelled_read rtype (spelled_octets input) shows in
     let octets = given.0 in
     let read = read_shown (data_in rtype octets) given.2 in
     let found = read.0 in
     let is = short octets found (spelled_small (lines input) octets given.1) read.1 in
-    let text : shown rtype input ≡ report.done (union_printed found) = given.3 ∙ read.2 in
+    let text : show_answer rtype input ≡ report.done_answer (union_printed found) = given.3 ∙ read.2 in
     record {
       octets = octets;
       found = found;
@@ -170,34 +170,34 @@ not_below n = grind (arith, nat_tests)
 
 -- what is read to the end
 whole_read : {V : Type 0} (type : V → RecordData) (end : ℕ) (r : Result V Fault) (found : RecordData)
-    → wholly_read end (read_as type (reaching end r)) ≡ Ok found → (held : V) × (r ≡ Ok held) × (found ≡ type held)
+    → whole_data end (read_as type (reaching end r)) ≡ Ok found → (held : V) × (r ≡ Ok held) × (found ≡ type held)
 whole_read type end (Err fault) found is = absurd cc
 whole_read type end (Ok held) found is =
-    let here = ap (λ left. cond left (Err Form) (Ok (type held))) (not_below end) in
+    let here = ap (λ octets_left. cond octets_left (Err Form) (Ok (type held))) (not_below end) in
     let same = sym here ∙ is in
     (held, refl, cc)
 
-in_part : (left : Bool) (held found : RecordData) → cond left (Err Form) (Ok held) ≡ Ok found → found ≡ held
+in_part : (octets_left : Bool) (held found : RecordData) → cond octets_left (Err Form) (Ok held) ≡ Ok found → found ≡ held
 in_part true held found none = absurd cc
 in_part false held found same = cc
 
 -- what is read up to some place
 part_read : {V : Type 0} (type : V → RecordData) (end : ℕ) (r : Result (DataRead V) Fault) (found : RecordData)
-    → wholly_read end (read_as type r) ≡ Ok found → (held : DataRead V) × (r ≡ Ok held) × (found ≡ type held.value)
+    → whole_data end (read_as type r) ≡ Ok found → (held : DataRead V) × (r ≡ Ok held) × (found ≡ type held.value)
 part_read type end (Err fault) found is = absurd cc
 part_read type end (Ok held) found is = (held, refl, in_part (nat_lt held.next end) (type held.value) found is)
 
 -- a type of one form
-module _ (composed : ReadComposedBack) (row : Row) (fits : LineFits row) (type : Data → RecordData) where
+module _ (composed : FieldsComposedBack) (row : Row) (fits : LineFits row) (type : Data → RecordData) where
   fields_read : (octets : List ℕ) (found : RecordData) → AreSmall octets
-      → wholly_read (length octets) (read_as type (reaching (length octets) (read_data row (left (whole_message octets))))) ≡ Ok found
-      → (held : Data) × rows.IsData row held × (length (report.line (data_printed row held)) < 16777216) × (found ≡ type held)
+      → whole_data (length octets) (read_as type (reaching (length octets) (read_data row (octets_left (whole_message octets))))) ≡ Ok found
+      → (held : Data) × rows.IsAssociationData row held × (length (report.line (fields_printed row held)) < 16777216) × (found ≡ type held)
   fields_read octets found small is =
-      let held = whole_read type (length octets) (read_data row (left (whole_message octets))) found is in
-      let is_data = (composed row (left (whole_message octets)) held.0 (label_octets octets 0 (length octets) (octets_from octets small)) held.1).0 in
+      let held = whole_read type (length octets) (read_data row (octets_left (whole_message octets))) found is in
+      let is_data = (composed row (octets_left (whole_message octets)) held.0 (label_octets octets 0 (length octets) (octets_from octets small)) held.1).0 in
       (held.0, is_data, fits held.0 is_data, held.2)
 
-module _ (composed : ReadComposedBack) (fits : TypesLinesFit) where
+module _ (composed : FieldsComposedBack) (fits : TypesLinesFit) where
   sshfp_short : IsReadShort 44
   sshfp_short octets found small is =
       let held = fields_read composed sshfp fits.sshfp_fits Sshfp octets found small is in
@@ -239,7 +239,7 @@ all_octets : (octets : List ℕ) → length octets ≡ length octets - 0
 all_octets octets = omega arith
 
 module _ (is_data : ReadIsData) (fits : DataLineFits) where
-  service_data : (octets : List ℕ) (held : Record) → AreSmall octets → read octets 0 (length octets) ≡ Ok held → IsData held
+  service_data : (octets : List ℕ) (held : Record) → AreSmall octets → read octets 0 (length octets) ≡ Ok held → IsRecordOfOctets held
   service_data octets held small is = is_data octets 0 (length octets) held (octets_from octets small) (omega arith) is
 
   svcb_short : IsReadShort 64
@@ -304,10 +304,10 @@ unknown_held rtype octets held is = elim (cases_lt 65535 (length octets)) [
 ]
 
 unknown_short : UnknownTextByOctets → (rtype : ℕ)
-    → ((octets : List ℕ) → data_in rtype octets ≡ wholly_read (length octets) (read_as Unknown (reaching (length octets) (unknown_read rtype (left (whole_message octets))))))
+    → ((octets : List ℕ) → data_in rtype octets ≡ whole_data (length octets) (read_as Unknown (reaching (length octets) (unknown_read rtype (octets_left (whole_message octets))))))
     → IsReadShort rtype
 unknown_short lengths rtype in_octets octets found small is =
-    let all = left (whole_message octets) in
+    let all = octets_left (whole_message octets) in
     let held = whole_read Unknown (length octets) (unknown_read rtype all) found (sym (in_octets octets) ∙ is) in
     let known = unknown_held rtype all held.0 held.1 in
     let are : AreOctets all = label_octets octets 0 (length octets) (octets_from octets small) in
@@ -378,7 +378,7 @@ every_type lengths are rtype = elim (cases_eq rtype 1) [
 pub types_back : UnionTextReadBack → UnknownTextByOctets → AreReadShort → TypesAreScannedBack
 types_back texts lengths are rtype = shown_back texts rtype (every_type lengths are rtype)
 
-pub are_short : ReadIsData → ReadComposedBack → IpseckeyComposedBack → DataLineFits → TypesLinesFit → IpseckeyLineFits → AreReadShort
+pub are_short : ReadIsData → FieldsComposedBack → IpseckeyComposedBack → DataLineFits → TypesLinesFit → IpseckeyLineFits → AreReadShort
 are_short is_data composed ipseckey_composed line_fits lines_fit ipseckey_fits = record {
   a = a_short;
   aaaa = aaaa_short;
@@ -420,17 +420,17 @@ spelled_back octets small =
     let back = decode_of-encode_lower octets small in
     ap (λ all. only_line (without_empty_last all)) (digits_line digits (decode_of-ok digits octets back).1)
     ∙ ap only_line (one_line digits)
-    ∙ ap (λ (r : Result (List ℕ) FromHexError). needed 1 (result_ok r) >>= λ x. unless None (Ok x)) back
+    ∙ ap (λ (r : Result (List ℕ) FromHexError). line_or_fault 1 (result_ok r) >>= λ x. first_fault_or None (Ok x)) back
 
 -- what is read back
 service_read : (type : Record → RecordData) (octets : List ℕ) (found : Record) → read octets 0 (length octets) ≡ Ok found
-    → wholly_read (length octets) (read_as type (reaching (length octets) (read octets 0 (length octets - 0)))) ≡ Ok (type found)
+    → whole_data (length octets) (read_as type (reaching (length octets) (read octets 0 (length octets - 0)))) ≡ Ok (type found)
 service_read type octets found is =
-    ap (λ (r : Result Record Fault). wholly_read (length octets) (read_as type (reaching (length octets) r))) (sym (ap (λ len. read octets 0 len) (all_octets octets)) ∙ is)
-    ∙ ap (λ left. cond left (Err Form) (Ok (type found))) (not_below (length octets))
+    ap (λ (r : Result Record Fault). whole_data (length octets) (read_as type (reaching (length octets) r))) (sym (ap (λ len. read octets 0 len) (all_octets octets)) ∙ is)
+    ∙ ap (λ octets_left. cond octets_left (Err Form) (Ok (type found))) (not_below (length octets))
 
 -- the line of hexadecimal isn't too long
-hexadecimal_fits : (found : Record) → IsData found → length (report.line (encode_lower (rdata found.priority found.labels found.pairs))) ≤ MAX_INPUT
+hexadecimal_fits : (found : Record) → IsRecordOfOctets found → length (report.line (encode_lower (rdata found.priority found.labels found.pairs))) ≤ MAX_INPUT
 hexadecimal_fits found is =
     let octets = rdata found.priority found.labels found.pairs in
     let long = length-encode_with lower_digits octets in
@@ -446,11 +446,11 @@ all_back read_back texts line_fits found is =
     let spelled = spelled_back octets (rdata_small found is) in
     let back = read_back found is.is_record in (
       record {
-        shown = show_due 64 given _ (ap (spelled_shown 64) spelled ∙ ap data_shown (service_read Svcb octets found back)) few;
+        show_answer = show_due 64 given _ (ap (spelled_show_answer 64) spelled ∙ ap data_shown (service_read Svcb octets found back)) few;
         scanned = scanned_back texts 64 (Svcb found) _ (record { number = refl; is_data = is; fits = line_fits found is }) refl;
       },
       record {
-        shown = show_due 65 given _ (ap (spelled_shown 65) spelled ∙ ap data_shown (service_read Https octets found back)) few;
+        show_answer = show_due 65 given _ (ap (spelled_show_answer 65) spelled ∙ ap data_shown (service_read Https octets found back)) few;
         scanned = scanned_back texts 65 (Https found) _ (record { number = refl; is_data = is; fits = line_fits found is }) refl;
       },
     )

@@ -9,14 +9,14 @@ use Rattle.svcb_spec.specs.declared.Reply.TheVariants.{Accepted, DuplicateKey, S
 use Rattle.svcb_spec.specs.Laws.{RecordReadBack}
 use Rattle.svcb_spec.specs.Params.{Pairs, Ascends, IsMap, pair_wire, pairs_wire, value_at, wire}
 use Rattle.svcb_spec.specs.Records.{Record, IsRecord, rdata, read}
-use Rattle.svcb_spec.specs.Rebuilding.{Rebuilt, accept, after, reply_to, rebuild, rebuild_of}
+use Rattle.svcb_spec.specs.Rebuilding.{Rebuilt, accept, pairs_after, reply_to, rebuild, rebuild_of}
 use Rattle.svcb_spec.specs.Values.{Value, AreValues, IsValue, encode, key_of}
 use Rattle.svcb_spec.proofs.RebuildLaws.{accept-map}
 use Rattle.svcb_spec.proofs.ValueLaws.{key_of_small}
 use Rattle.svcb_spec.proofs.WireLaws.{length-wire-insert, wire-pairs}
 use Rattle.devices.specs.declared.transfer.TheConstants.{MAX_INPUT}
-use Rattle.svcbedit.specs.Commands.{answer_of, reads}
-use Rattle.svcbedit.specs.Edit.{reported}
+use Rattle.svcbedit.specs.Commands.{answer_of, is_reading}
+use Rattle.svcbedit.specs.Edit.{report_of}
 use Rattle.svcbedit.specs.Generate.{own_message, own_params, own_push, own_rebuilt, pushes_below, summary}
 use Rattle.svcbedit.specs.Laws.{GenIsDone}
 use Rattle.svcbedit.specs.Report as report
@@ -25,7 +25,7 @@ use Rattle.svcbedit.specs.Report as report
 
 put_within : (pairs : Pairs) (limit key : ℕ) (octets : List ℕ) → IsMap pairs → key < 65536 → length octets < 65536 → length (wire pairs) ≤ limit
     → (there : Option (List ℕ)) → value_at pairs key ≡ there → (long : Bool) → nat_lt limit (length (wire pairs) + 4 + length octets) ≡ long
-    → length (wire (after (if is_some there then DuplicateKey else if long then ShortBuf else Accepted) pairs key octets)) ≤ limit
+    → length (wire (pairs_after (if is_some there then DuplicateKey else if long then ShortBuf else Accepted) pairs key octets)) ≤ limit
 put_within pairs limit key octets is_map small few within (Some held) is long tested = within
 put_within pairs limit key octets is_map small few within None is true tested = within
 put_within pairs limit key octets is_map small few within None is false tested =
@@ -40,7 +40,7 @@ accept_within pairs limit [] is_map are within = within
 accept_within pairs limit (value ∷ values) is_map are within =
     let key = key_of value in
     let octets = encode value in
-    accept_within (after (reply_to pairs limit key octets) pairs key octets) limit values (accept-map pairs limit (value ∷ []) is_map (are.0, tt)) are.1
+    accept_within (pairs_after (reply_to pairs limit key octets) pairs key octets) limit values (accept-map pairs limit (value ∷ []) is_map (are.0, tt)) are.1
     (put_within pairs limit key octets is_map (key_of_small value are.0.0) are.0.1 within
     (value_at pairs key) refl (nat_lt limit (length (wire pairs) + 4 + length octets)) refl)
 
@@ -130,9 +130,9 @@ own_done back count within =
     )
 
 pub gen_done : RecordReadBack → GenIsDone
-unfolding answer_of reads
+unfolding answer_of is_reading
 gen_done back count left =
     let none : List ℕ = [] in
     let none_read : nat_lt MAX_INPUT (length none) ≡ false = grind (arith, nat_tests) in
     let done = own_done back (min count 8000) (omega arith) in
-    rw none_read (ap (λ rebuilt. (reported (λ r. report.done (summary r)) rebuilt).status) done.1)
+    rw none_read (ap (λ rebuilt. (report_of (λ r. report.done_answer (summary r)) rebuilt).status) done.1)

@@ -9,7 +9,7 @@ use Rattle.svcb_spec.specs.Params.{Pairs, Ascends, pairs_wire, wire}
 use Rattle.svcb_spec.specs.Records.{Record, rdata}
 use Rattle.svcb_spec.proofs.WireLaws.{wire-pairs}
 use Rattle.svcb_laws.specs.ParamTextLaws.{HaveOctets}
-use Rattle.svcb_laws.specs.DataTextLaws.{IsData}
+use Rattle.svcb_laws.specs.DataTextLaws.{IsRecordOfOctets}
 use Rattle.svcb_laws.proofs.DataOctets.{octets_parts, octets_joined}
 
 -- what is known of a list's numbers, place by place
@@ -63,7 +63,7 @@ pairs_octets (pair ∷ pairs) least up are =
     (octets_joined (be2 pair.0 ++ be2 (length pair.1)) pair.1 (octets_joined (be2 pair.0) (be2 (length pair.1)) key len) are.0)
     (pairs_octets pairs (pair.0 + 1) up.3 are.1)
 
-pub rdata_small : (found : Record) → IsData found → AreSmall (rdata found.priority found.labels found.pairs)
+pub rdata_small : (found : Record) → IsRecordOfOctets found → AreSmall (rdata found.priority found.labels found.pairs)
 rdata_small found is =
     let record_is = is.is_record in
     let pairs = subst AreOctets (sym (wire-pairs found.pairs record_is.is_map)) (pairs_octets found.pairs 0 record_is.is_map is.values) in

@@ -9,24 +9,24 @@ use Rattle.wire_base.specs.RecordReading.{DataRead, place_behind}
 use Rattle.record_spec.specs.RecordData.{RecordData}
 use Rattle.record_spec.specs.UnionReading.{union_read}
 use Rattle.rdata_union.specs.Views.{value_read}
-use Rattle.svcbedit.specs.Show.{whole_message, wholly_read, data_in}
+use Rattle.svcbedit.specs.Show.{whole_message, whole_data, data_in}
 
 reaches : (a b : ℕ) → b ≤ a → nat_lt a b ≡ false
 reaches a b past = grind (arith, nat_tests)
 
 -- octets are left
 part : (end : ℕ) (read : Result (DataRead RecordData) Fault) (found : RecordData) → value_read read ≡ Ok found → place_behind 0 true read < end
-    → wholly_read end read ≡ Err Form
+    → whole_data end read ≡ Err Form
 part end (Ok held) found is less = ap (λ left. cond left (Err Form) (Ok held.value)) (lt-ltb held.next end less)
 part end (Err fault) found is less = absurd cc
 
 -- none is left
 whole : (end : ℕ) (read : Result (DataRead RecordData) Fault) (found : RecordData) → value_read read ≡ Ok found → end ≤ place_behind 0 true read
-    → wholly_read end read ≡ Ok found
+    → whole_data end read ≡ Ok found
 whole end (Ok held) found is past = ap (λ left. cond left (Err Form) (Ok held.value)) (reaches held.next end past) ∙ is
 whole end (Err fault) found is past = absurd cc
 
-none : (end : ℕ) (read : Result (DataRead RecordData) Fault) (fault : Fault) → value_read read ≡ Err fault → wholly_read end read ≡ Err fault
+none : (end : ℕ) (read : Result (DataRead RecordData) Fault) (fault : Fault) → value_read read ≡ Err fault → whole_data end read ≡ Err fault
 none end (Ok held) fault is = absurd cc
 none end (Err other) fault is = is
 

@@ -3,7 +3,7 @@ use Rattle.std.proofs.Common.{◌≡◌, ℕ, ◌+◌, List, [], ◌∷◌, ◌+
 use Rattle.std.proofs.lemmas.List.{append_assoc, append-nil, map-append}
 use Rattle.svcb_spec.specs.Values.{Value}
 use Rattle.svcbedit.specs.Pushes.{push_of}
-use Rattle.svcbedit.specs.Spelling.{needed, pushes_of, ◌>>=◌}
+use Rattle.svcbedit.specs.Spelling.{line_or_fault, pushes_of, ◌>>=◌}
 use Rattle.svcbedit.specs.declared.spelling.InputFault.{InputFault}
 use Rattle.svcbedit.specs.declared.spelling.InputFault.TheVariants.{BadLine}
 
@@ -22,7 +22,7 @@ pub behind-more : (front : List Value) (number : ℕ) (line : List ℕ) (more : 
     → Some push ≡ push_of line
     → behind front (pushes_of number (line ∷ more)) ≡ behind (front ++ push ∷ []) (pushes_of (number + 1) more)
 behind-more front number line more push e =
-    ap (λ (o : Option Value). behind front (needed number o >>= λ p. pushes_of (number + 1) more >>= λ ps. Ok (p ∷ ps))) (sym e)
+    ap (λ (o : Option Value). behind front (line_or_fault number o >>= λ p. pushes_of (number + 1) more >>= λ ps. Ok (p ∷ ps))) (sym e)
     ∙ behind-cons front push (pushes_of (number + 1) more)
 
 -- and so the item that holds the value
@@ -38,7 +38,7 @@ behind-pushed value_of items items' push number line lines more is e grown =
 pub behind-bad : (front : List Value) (number : ℕ) (line : List ℕ) (more : List (List ℕ)) → None ≡ push_of line
     → behind front (pushes_of number (line ∷ more)) ≡ Err (BadLine number)
 behind-bad front number line more e =
-    ap (λ (o : Option Value). behind front (needed number o >>= λ p. pushes_of (number + 1) more >>= λ ps. Ok (p ∷ ps))) (sym e)
+    ap (λ (o : Option Value). behind front (line_or_fault number o >>= λ p. pushes_of (number + 1) more >>= λ ps. Ok (p ∷ ps))) (sym e)
 
 -- behind the last line all values are there
 pub behind-end : (front : List Value) (number : ℕ) (lines : List (List ℕ)) → lines ≡ []

@@ -2,27 +2,27 @@
 use Rattle.std.specs.Prelude.{ℕ, Bool, true, false, nat_lt, if◌then◌else◌, Option, Some, None, List, [], length}
 use Rattle.std.specs.Option.{option_map}
 use Rattle.devices.specs.declared.transfer.TheConstants.{MAX_INPUT}
-use Rattle.svcbedit.specs.Edit.{edited}
-use Rattle.svcbedit.specs.Generate.{generated}
+use Rattle.svcbedit.specs.Edit.{edit_answer}
+use Rattle.svcbedit.specs.Generate.{gen_answer}
 use Rattle.svcbedit.specs.Report.{Answer, no_command, too_long}
-use Rattle.svcbedit.specs.Scan.{scanned}
-use Rattle.svcbedit.specs.Show.{shown}
+use Rattle.svcbedit.specs.Scan.{scan_answer}
+use Rattle.svcbedit.specs.Show.{show_answer}
 use Rattle.svcbedit.specs.declared.words.Command.{Command}
 use Rattle.svcbedit.specs.declared.words.Command.TheVariants.{Edit, Show, Scan, Gen}
 
 -- the answer of a command to an input that isn't too long
 unfoldable pub answer_of : Command → List ℕ → Answer
-answer_of Edit input = edited input
-answer_of (Show rtype) input = shown rtype input
-answer_of (Scan rtype) input = scanned rtype input
-answer_of (Gen count) input = generated count
+answer_of Edit input = edit_answer input
+answer_of (Show rtype) input = show_answer rtype input
+answer_of (Scan rtype) input = scan_answer rtype input
+answer_of (Gen count) input = gen_answer count
 
 -- the command reads the input; one that doesn't is given an empty one
-unfoldable pub reads : Command → Bool
-reads Edit = true
-reads (Show rtype) = true
-reads (Scan rtype) = true
-reads (Gen count) = false
+unfoldable pub is_reading : Command → Bool
+is_reading Edit = true
+is_reading (Show rtype) = true
+is_reading (Scan rtype) = true
+is_reading (Gen count) = false
 
 -- the answer of a command to an input
 abbrev pub answer_to : Command → List ℕ → Answer
@@ -30,7 +30,7 @@ answer_to command input = if nat_lt MAX_INPUT (length input) then too_long else 
 
 -- what a command is given of what the source has left: unknown where it reads a source that doesn't tell
 abbrev pub input_of : Command → Option (List ℕ) → Option (List ℕ)
-input_of command left = if reads command then left else Some []
+input_of command left = if is_reading command then left else Some []
 
 -- The answer that is due to the words, where it is known. Words that are no command have an answer of their own.
 abbrev pub due : Option Command → Option (List ℕ) → Option Answer
@@ -40,4 +40,4 @@ due (Some command) left = option_map (answer_to command) (input_of command left)
 -- the words name a command that reads the input
 abbrev pub reads_input : Option Command → Bool
 reads_input None = false
-reads_input (Some command) = reads command
+reads_input (Some command) = is_reading command

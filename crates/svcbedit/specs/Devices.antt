@@ -6,12 +6,12 @@ use Rattle.devices.specs.Takes.{TakesInput}
 use Rattle.devices.specs.declared.transfer.TheConstants.{MAX_INPUT}
 use Rattle.svcbedit.specs.Report.{Answer}
 use Rattle.svcbedit.specs.Run.{Performs}
-use Rattle.svcbedit.specs.Stops.{SourceCause, SinkCause}
-use Rattle.svcbedit.specs.declared.stop.Stop.{Stop}
+use Rattle.svcbedit.specs.RunErrors.{SourceCause, SinkCause}
+use Rattle.svcbedit.specs.declared.run_error.RunError.{RunError}
 
 -- The source is left alone, or all that an input may have is taken of it, and at most one octet beyond.
 pub record Draws {S T : Type 0} (reads : Bool) (left : S → Option (List ℕ)) (faults : S → ℕ)
-    (old new : S) (result : Result T Stop) : Type 0 where
+    (old new : S) (result : Result T RunError) : Type 0 where
   pub unread : OnFalse reads (new ≡ old)
   pub end : OnTrue reads (OnOk result (IfSome (left old)
       (λ bytes. length bytes ≤ MAX_INPUT → IsAtEnd (left new))))
@@ -23,7 +23,7 @@ pub record Draws {S T : Type 0} (reads : Bool) (left : S → Option (List ℕ)) 
 
 -- The report of the answer is appended to the sink, or a front of it.
 pub record Reports {K : Type 0} (held : K → Option (List ℕ)) (faults : K → ℕ)
-    (old new : K) (answer : Option Answer) (result : Result ℕ Stop) : Type 0 where
+    (old new : K) (answer : Option Answer) (result : Result ℕ RunError) : Type 0 where
   pub performs : Performs result answer (held old) (held new)
   pub keeps_telling : is_some (held new) ≡ is_some (held old)
   -- the count of faults rises at a write fault alone

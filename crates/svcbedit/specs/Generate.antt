@@ -9,8 +9,8 @@ use Rattle.svcb_spec.specs.declared.Reply.TheVariants.{Accepted, DuplicateKey, S
 use Rattle.svcb_spec.specs.Params.{pair_wire}
 use Rattle.svcb_spec.specs.Rebuilding.{Rebuilt, Refusal, rebuild}
 use Rattle.svcb_spec.specs.Values.{Value, Unknown}
-use Rattle.svcbedit.specs.Edit.{reported}
-use Rattle.svcbedit.specs.Report.{Answer, done}
+use Rattle.svcbedit.specs.Edit.{report_of}
+use Rattle.svcbedit.specs.Report.{Answer, done_answer}
 
 -- the first parameters of the data: under the key 100 + 8i the two octets of i
 unfoldable pub own_params : ℕ → List ℕ
@@ -61,5 +61,5 @@ abbrev pub own_rebuilt : ℕ → Result Rebuilt Refusal
 own_rebuilt count = rebuild (own_message count) 0 (length (own_message count)) (pushes_below (min count 2000)) 65532
 
 -- the answer of `gen` to a count, which is at most 8000 where words give it
-abbrev pub generated : ℕ → Answer
-generated count = reported (λ rebuilt. done (summary rebuilt)) (own_rebuilt (min count 8000))
+abbrev pub gen_answer : ℕ → Answer
+gen_answer count = report_of (λ rebuilt. done_answer (summary rebuilt)) (own_rebuilt (min count 8000))

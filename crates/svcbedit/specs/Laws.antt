@@ -2,17 +2,17 @@
 use Rattle.std.specs.Prelude.{◌≡◌, ℕ, List, Option, Some, None, Ok}
 use Rattle.hex.specs.Hex.{encode_lower}
 use Rattle.svcb_spec.specs.Records.{Record}
-use Rattle.svcb_laws.specs.DataTextLaws.{IsData}
+use Rattle.svcb_laws.specs.DataTextLaws.{IsRecordOfOctets}
 use Rattle.record_spec.specs.RecordData.{RecordData, Svcb, Https, union_wire}
 use Rattle.record_spec.specs.UnionTexts.{union_printed}
 use Rattle.svcbedit.specs.Commands.{due}
-use Rattle.svcbedit.specs.Report.{Answer, done, line}
+use Rattle.svcbedit.specs.Report.{Answer, done_answer, line}
 use Rattle.svcbedit.specs.Show.{spelled_octets, data_in}
 use Rattle.svcbedit.specs.declared.words.Command.TheVariants.{Show, Scan, Gen}
 
 -- the octets of data in hexadecimal
-abbrev pub hexadecimal : RecordData → List ℕ
-hexadecimal found = encode_lower (union_wire found)
+abbrev pub data_hexadecimal : RecordData → List ℕ
+data_hexadecimal found = encode_lower (union_wire found)
 
 -- what is due to `show`, and to `scan`, with an input
 abbrev pub due_to_show : ℕ → List ℕ → Option Answer
@@ -27,7 +27,7 @@ pub record IsScannedBack (rtype : ℕ) (input text : List ℕ) : Type 0 where
   pub found : RecordData
   pub spelled : spelled_octets input ≡ Ok octets
   pub read : data_in rtype octets ≡ Ok found
-  pub scanned : due_to_scan rtype text ≡ Some (done (hexadecimal found))
+  pub scanned : due_to_scan rtype text ≡ Some (done_answer (data_hexadecimal found))
 
 -- wherever `show` writes a text for a type, `scan` gives of it exactly the octets of the data that was read
 abbrev pub ShownIsScannedBack : ℕ → Type 0
@@ -40,12 +40,12 @@ TypesAreScannedBack = (rtype : ℕ) → ShownIsScannedBack rtype
 
 -- `show` writes a text for data, and `scan` gives the same octets back
 pub record IsDataBack (rtype : ℕ) (found : RecordData) : Type 0 where
-  pub shown : due_to_show rtype (line (hexadecimal found)) ≡ Some (done (union_printed found))
-  pub scanned : due_to_scan rtype (line (union_printed found)) ≡ Some (done (hexadecimal found))
+  pub shown : due_to_show rtype (line (data_hexadecimal found)) ≡ Some (done_answer (union_printed found))
+  pub scanned : due_to_scan rtype (line (union_printed found)) ≡ Some (done_answer (data_hexadecimal found))
 
 -- so it is for any data of SVCB and of HTTPS
 abbrev pub AllDataBack : Type 0
-AllDataBack = (found : Record) → IsData found → IsDataBack 64 (Svcb found) × IsDataBack 65 (Https found)
+AllDataBack = (found : Record) → IsRecordOfOctets found → IsDataBack 64 (Svcb found) × IsDataBack 65 (Https found)
 
 -- an answer is known, and says that the command was done
 abbrev pub IsDone : Option Answer → Type 0

@@ -15,6 +15,6 @@ pub mod Generate
 pub mod Words
 pub mod Commands
 pub mod Laws
-pub mod Stops
+pub mod RunErrors
 pub mod Run
 pub mod Devices

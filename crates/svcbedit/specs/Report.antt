@@ -32,8 +32,8 @@ pub record Answer : Type 0 where
   pub report : List ℕ
 
 -- the command was done, and this is the line that it gives
-abbrev pub done : List ℕ → Answer
-done text = record { status = 0; report = line text }
+abbrev pub done_answer : List ℕ → Answer
+done_answer text = record { status = 0; report = line text }
 
 -- the input is well formed, and for this reason what it asks for can't be done
 abbrev pub not_done : List ℕ → Answer

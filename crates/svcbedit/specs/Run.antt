@@ -3,8 +3,8 @@ use Rattle.std.specs.Prelude.{◌≡◌, ◌≢◌, ◌<◌, ◌≤◌, ℕ, Lis
 use Rattle.std.specs.Io.KnownBytes.{Appends, Keeps}
 use Rattle.svcbedit.specs.Report.{Answer}
 use Rattle.svcbedit.specs.declared.words.Command.{Command}
-use Rattle.svcbedit.specs.declared.stop.Stop.{Stop}
-use Rattle.svcbedit.specs.declared.stop.Stop.TheVariants.{ReadFault, WriteFault, NoMemory}
+use Rattle.svcbedit.specs.declared.run_error.RunError.{RunError}
+use Rattle.svcbedit.specs.declared.run_error.RunError.TheVariants.{ReadFault, WriteFault, NoMemory}
 
 -- the whole report was written
 abbrev pub Whole : Answer → Option (List ℕ) → Option (List ℕ) → Type 0
@@ -26,35 +26,35 @@ pub record Ends (status : ℕ) (answer : Option Answer) (old new : Option (List 
   pub no_memory : status ≡ 6 → Keeps old new
 
 -- what the sink holds where the program stops
-abbrev pub Stops : Stop → Option Answer → Option (List ℕ) → Option (List ℕ) → Type 0
-Stops ReadFault answer old new = Keeps old new
-Stops WriteFault answer old new = IfSome answer (λ a. Part a old new)
-Stops NoMemory answer old new = Keeps old new
+abbrev pub RunErrors : RunError → Option Answer → Option (List ℕ) → Option (List ℕ) → Type 0
+RunErrors ReadFault answer old new = Keeps old new
+RunErrors WriteFault answer old new = IfSome answer (λ a. Part a old new)
+RunErrors NoMemory answer old new = Keeps old new
 
 -- how a command ends, before there is a status for each stop
-abbrev pub Performs : Result ℕ Stop → Option Answer → Option (List ℕ) → Option (List ℕ) → Type 0
+abbrev pub Performs : Result ℕ RunError → Option Answer → Option (List ℕ) → Option (List ℕ) → Type 0
 Performs (Ok status) answer old new = (status < 4) × IfSome answer (λ a. (status ≡ a.status) × Whole a old new)
-Performs (Err stop) answer old new = Stops stop answer old new
+Performs (Err stop) answer old new = RunErrors stop answer old new
 
 -- a write failed, which alone stops the program at words that are no command
-abbrev pub IsWriteFault : Stop → Type 0
+abbrev pub IsWriteFault : RunError → Type 0
 IsWriteFault ReadFault = ⊥
 IsWriteFault WriteFault = Unit {0}
 IsWriteFault NoMemory = ⊥
 
 -- no write failed, since none was tried
-abbrev pub IsNoWriteFault : Stop → Type 0
+abbrev pub IsNoWriteFault : RunError → Type 0
 IsNoWriteFault ReadFault = Unit {0}
 IsNoWriteFault WriteFault = ⊥
 IsNoWriteFault NoMemory = Unit {0}
 
 -- The status is 1 for words that are no command, and for no others. Before such words only a write may fail.
-abbrev pub TellsCommand : Option Command → Result ℕ Stop → Type 0
+abbrev pub TellsCommand : Option Command → Result ℕ RunError → Type 0
 TellsCommand None result = MatchResult result (λ status. status ≡ 1) IsWriteFault
 TellsCommand (Some command) result = IfOk result (λ status. status ≢ 1)
 
 -- no read failed, since none was tried
-abbrev pub IsNoReadFault : Stop → Type 0
+abbrev pub IsNoReadFault : RunError → Type 0
 IsNoReadFault ReadFault = ⊥
 IsNoReadFault WriteFault = Unit {0}
 IsNoReadFault NoMemory = Unit {0}

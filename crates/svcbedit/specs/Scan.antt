@@ -7,7 +7,7 @@ use Rattle.text_spec.specs.Scanning.{Scanning}
 use Rattle.text_spec.specs.Tokens.{text_fault, tokens_in}
 use Rattle.record_spec.specs.RecordData.{RecordData, union_wire}
 use Rattle.record_spec.specs.UnionTexts.{union_scan}
-use Rattle.svcbedit.specs.Report.{Answer, done, not_done}
+use Rattle.svcbedit.specs.Report.{Answer, done_answer, not_done}
 
 -- what a report says of a fault; want of memory is none, and nothing is written for it
 abbrev pub scan_fault_text : ScanError → List ℕ
@@ -54,8 +54,8 @@ entry_scanned scanning text = elim (text_fault text) [
 -- to a text that is scanned as data: the octets of it
 abbrev pub data_scanned : Result RecordData ScanError → Answer
 data_scanned (Err fault) = not_done (scan_fault_text fault)
-data_scanned (Ok found) = done (encode_lower (union_wire found))
+data_scanned (Ok found) = done_answer (encode_lower (union_wire found))
 
 -- the answer of `scan`, for a type number, to an input that isn't too long
-abbrev pub scanned : ℕ → List ℕ → Answer
-scanned rtype text = data_scanned (entry_scanned (union_scan rtype) text)
+abbrev pub scan_answer : ℕ → List ℕ → Answer
+scan_answer rtype text = data_scanned (entry_scanned (union_scan rtype) text)

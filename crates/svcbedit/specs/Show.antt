@@ -6,11 +6,11 @@ use Rattle.wire_base.specs.RecordReading.{DataRead}
 use Rattle.record_spec.specs.RecordData.{RecordData}
 use Rattle.record_spec.specs.UnionReading.{union_read}
 use Rattle.record_spec.specs.UnionTexts.{union_printed}
-use Rattle.svcbedit.specs.Faults.{refused, data_fault_text}
+use Rattle.svcbedit.specs.Faults.{refused_answer, data_fault_text}
 use Rattle.svcbedit.specs.Lines.{lines}
 use Rattle.svcbedit.specs.Pushes.{hexadecimal_octets}
-use Rattle.svcbedit.specs.Report.{Answer, done, not_done}
-use Rattle.svcbedit.specs.Spelling.{needed, unless, ◌>>=◌}
+use Rattle.svcbedit.specs.Report.{Answer, done_answer, not_done}
+use Rattle.svcbedit.specs.Spelling.{line_or_fault, first_fault_or, ◌>>=◌}
 use Rattle.svcbedit.specs.declared.spelling.InputFault.{InputFault}
 use Rattle.svcbedit.specs.declared.spelling.InputFault.TheVariants.{BadLine}
 
@@ -22,8 +22,8 @@ second_fault _ = None
 -- the octets of the only line, which are in hexadecimal
 abbrev pub only_line : List (List ℕ) → Result (List ℕ) InputFault
 only_line all = do
-  octets ← needed 1 (option_and_then hexadecimal_octets (slice_get all 0))
-  unless (second_fault all) (Ok octets)
+  octets ← line_or_fault 1 (option_and_then hexadecimal_octets (slice_get all 0))
+  first_fault_or (second_fault all) (Ok octets)
 
 -- the octets that an input which isn't too long spells, or its first fault
 abbrev pub spelled_octets : List ℕ → Result (List ℕ) InputFault
@@ -34,24 +34,24 @@ abbrev pub whole_message : List ℕ → Input
 whole_message octets = record { message = octets; end = length octets; pos = 0 }
 
 -- data that reaches to an end; octets that are left behind it are a fault
-abbrev pub wholly_read : {V : Type 0} → ℕ → Result (DataRead V) Fault → Result V Fault
-wholly_read end (Ok found) = if nat_lt found.next end then Err Form else Ok found.value
-wholly_read end (Err fault) = Err fault
+abbrev pub whole_data : {V : Type 0} → ℕ → Result (DataRead V) Fault → Result V Fault
+whole_data end (Ok found) = if nat_lt found.next end then Err Form else Ok found.value
+whole_data end (Err fault) = Err fault
 
 -- the data that all these octets are under a type number, or their first fault
 abbrev pub data_in : ℕ → List ℕ → Result RecordData Fault
-data_in rtype octets = wholly_read (length octets) (union_read rtype (whole_message octets))
+data_in rtype octets = whole_data (length octets) (union_read rtype (whole_message octets))
 
 -- to octets that are read as data: its text
 abbrev pub data_shown : Result RecordData Fault → Answer
-data_shown (Ok found) = done (union_printed found)
+data_shown (Ok found) = done_answer (union_printed found)
 data_shown (Err fault) = not_done (data_fault_text fault)
 
 -- to what an input spells
-abbrev pub spelled_shown : ℕ → Result (List ℕ) InputFault → Answer
-spelled_shown rtype (Err fault) = refused fault
-spelled_shown rtype (Ok octets) = data_shown (data_in rtype octets)
+abbrev pub spelled_show_answer : ℕ → Result (List ℕ) InputFault → Answer
+spelled_show_answer rtype (Err fault) = refused_answer fault
+spelled_show_answer rtype (Ok octets) = data_shown (data_in rtype octets)
 
 -- the answer of `show`, for a type number, to an input that isn't too long
-abbrev pub shown : ℕ → List ℕ → Answer
-shown rtype input = spelled_shown rtype (spelled_octets input)
+abbrev pub show_answer : ℕ → List ℕ → Answer
+show_answer rtype input = spelled_show_answer rtype (spelled_octets input)

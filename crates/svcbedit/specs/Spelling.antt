@@ -25,34 +25,34 @@ Ok x >>= f = f x
 Err fault >>= f = Err fault
 
 -- what the line of a number says; one that is missing or bad is a fault
-abbrev pub needed : {A : Type 0} → ℕ → Option A → Result A InputFault
-needed number (Some x) = Ok x
-needed number None = Err (BadLine number)
+abbrev pub line_or_fault : {A : Type 0} → ℕ → Option A → Result A InputFault
+line_or_fault number (Some x) = Ok x
+line_or_fault number None = Err (BadLine number)
 
 -- a value for each of the lines, whose numbers begin with this one
 abbrev pub pushes_of : ℕ → List (List ℕ) → Result (List Value) InputFault
 pushes_of number [] = Ok []
 pushes_of number (line ∷ more) = do
-  push ← needed number (push_of line)
+  push ← line_or_fault number (push_of line)
   pushes ← pushes_of (number + 1) more
   Ok (push ∷ pushes)
 
 -- no more steps where there is a fault
-abbrev pub unless : {A : Type 0} → Option InputFault → Result A InputFault → Result A InputFault
-unless (Some fault) next = Err fault
-unless None next = next
+abbrev pub first_fault_or : {A : Type 0} → Option InputFault → Result A InputFault → Result A InputFault
+first_fault_or (Some fault) next = Err fault
+first_fault_or None next = next
 
 -- line 1 is the place, line 2 the message in hexadecimal, and each other line a push
 abbrev pub spelled_lines : List (List ℕ) → Result Spelled InputFault
 spelled_lines all = do
-  place ← needed 1 (option_and_then place_of (slice_get all 0))
-  message ← needed 2 (option_and_then hexadecimal_octets (slice_get all 1))
-  pushes ← unless (place_fault place (length message)) (pushes_of 3 (drop 2 all))
+  place ← line_or_fault 1 (option_and_then place_of (slice_get all 0))
+  message ← line_or_fault 2 (option_and_then hexadecimal_octets (slice_get all 1))
+  pushes ← first_fault_or (place_fault place (length message)) (pushes_of 3 (drop 2 all))
   Ok (record { message = message; start = place.start; len = place.len; limit = place.limit; pushes = pushes })
 
 -- what an input that isn't too long spells, or its first fault
-abbrev pub spelled : List ℕ → Result Spelled InputFault
-spelled bytes = spelled_lines (lines bytes)
+abbrev pub spelling_of : List ℕ → Result Spelled InputFault
+spelling_of bytes = spelled_lines (lines bytes)
 
 -- A reader of the code answers, seen by `view`, what a definition gives. Want of memory says nothing of the input.
 abbrev pub IsFault : {Y : Type 0} → SpellError → Result Y InputFault → Type 0

@@ -9,9 +9,9 @@ use Rattle.svcbedit.specs.declared.words.Command.{Command}
 use Rattle.svcbedit.specs.declared.words.Command.TheVariants.{Edit, Show, Scan, Gen}
 
 -- a command, where no word follows its name
-abbrev pub alone : Command → List (List ℕ) → Option Command
-alone command [] = Some command
-alone command (word ∷ more) = None
+abbrev pub command_alone : Command → List (List ℕ) → Option Command
+command_alone command [] = Some command
+command_alone command (word ∷ more) = None
 
 -- one to so many digits of a number within bounds
 abbrev pub number_within : ℕ → ℕ → ℕ → List ℕ → Option ℕ
@@ -59,7 +59,7 @@ only_count words = None
 -- the command of a name and of the words behind it
 abbrev pub command_named : List ℕ → List (List ℕ) → Option Command
 command_named name more =
-    if bytes_eq name (codes "edit") then alone Edit more
+    if bytes_eq name (codes "edit") then command_alone Edit more
     else if bytes_eq name (codes "show") then option_map Show (only_type more)
     else if bytes_eq name (codes "scan") then option_map Scan (only_type more)
     else if bytes_eq name (codes "gen") then option_map Gen (only_count more)

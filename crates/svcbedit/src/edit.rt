@@ -4,7 +4,7 @@ ghost use Rattle.svcb_spec.specs.Rebuilding as spec;
 ghost use Rattle.svcb_spec.specs.Rebuilding.{rebuild};
 ghost use Rattle.svcb_rdata.specs.RebuiltView.{IsRefusal};
 ghost use Rattle.svcb_text.specs.AllValues.{value_of};
-ghost use Rattle.svcbedit.specs.Edit.{reported, rebuilt, edited};
+ghost use Rattle.svcbedit.specs.Edit.{report_of, rebuild_report, edit_answer};
 ghost use Rattle.svcbedit.specs.Report as report;
 ghost use Rattle.svcbedit.specs.ReportView.{answer_view};
 
@@ -19,7 +19,7 @@ use wire_base::{NoMemory, ParseError};
 pub fn refusal_answer(alloc: Global, error: RebuildError) -> Result<Answer, NoMemory>
     ensures { (whole : spec.Rebuilt → report.Answer) (given : Result spec.Rebuilt spec.Refusal)
         → IsRefusal error given
-        → IfOk result (λ answer. answer_view answer ≡ reported whole given) }
+        → IfOk result (λ answer. answer_view answer ≡ report_of whole given) }
 {
     let text = match error {
         RebuildError::Parse(ParseError::ShortInput) => "error: short input\n",
@@ -36,7 +36,7 @@ fn rebuilt_answer(alloc: Global, spelling: &Spelling) -> Result<Answer, NoMemory
     requires place { spelling.now.place.start + spelling.now.place.len
         ≤ length spelling.now.message }
     requires limit { spelling.now.place.limit < 2 ^ 31 }
-    ensures { IfOk result (λ answer. answer_view answer ≡ rebuilt (rebuild spelling.now.message
+    ensures { IfOk result (λ answer. answer_view answer ≡ rebuild_report (rebuild spelling.now.message
         spelling.now.place.start spelling.now.place.len
         (map value_of spelling.now.pushes.items) spelling.now.place.limit)) }
 {
@@ -61,7 +61,7 @@ fn rebuilt_answer(alloc: Global, spelling: &Spelling) -> Result<Answer, NoMemory
 /// The answer of `edit` to an input. Refused for want of memory alone.
 pub fn edit_answer(alloc: Global, input: &[u8]) -> Result<Answer, NoMemory>
     requires { length input.now ≤ MAX_INPUT }
-    ensures { IfOk result (λ answer. answer_view answer ≡ edited input.now) }
+    ensures { IfOk result (λ answer. answer_view answer ≡ edit_answer input.now) }
 {
     match read_spelling(alloc, input) {
         Ok(spelling) => rebuilt_answer(alloc, &spelling),

@@ -4,9 +4,9 @@ ghost use Rattle.std.specs.List.{count_by, sum};
 ghost use Rattle.name_spec.specs.Octets.{be2};
 ghost use Rattle.svcb_spec.specs.Params.{pair_wire};
 ghost use Rattle.svcb_text.specs.AllValues.{value_of};
-ghost use Rattle.svcb_rdata.specs.RebuiltView.{seen};
-ghost use Rattle.svcbedit.specs.Generate.{own_message, own_push, pushes_at, pushes_below, is_accepted, is_duplicate, summary, summary_text, generated};
-ghost use Rattle.svcbedit.specs.Report.{done};
+ghost use Rattle.svcb_rdata.specs.RebuiltView.{rebuilt_view};
+ghost use Rattle.svcbedit.specs.Generate.{own_message, own_push, pushes_at, pushes_below, is_accepted, is_duplicate, summary, summary_text, gen_answer};
+ghost use Rattle.svcbedit.specs.Report.{done_answer};
 ghost use Rattle.svcbedit.specs.ReportView.{answer_view};
 
 use crate::edit::refusal_answer;
@@ -144,7 +144,7 @@ impl fmt::Display for Summary {
 fn summary_of(rebuilt: &Rebuilt) -> Summary
     requires { length rebuilt.now.octets ≤ 65535 }
     ensures { summary_text result.accepted result.duplicate result.octets result.sum
-        ≡ summary (seen rebuilt.now) }
+        ≡ summary (rebuilt_view rebuilt.now) }
 {
     let (accepted, duplicate) = count_replies(rebuilt.replies.as_slice());
     let octets = rebuilt.octets.as_slice();
@@ -159,7 +159,7 @@ fn summary_of(rebuilt: &Rebuilt) -> Summary
 /// The answer where the data was rebuilt.
 fn summary_answer(alloc: Global, rebuilt: &Rebuilt) -> Result<Answer, NoMemory>
     requires { length rebuilt.now.octets ≤ 65535 }
-    ensures { IfOk result (λ answer. answer_view answer ≡ done (summary (seen rebuilt.now))) }
+    ensures { IfOk result (λ answer. answer_view answer ≡ done_answer (summary (rebuilt_view rebuilt.now))) }
 {
     let summary = summary_of(rebuilt);
     Ok(Answer {
@@ -170,7 +170,7 @@ fn summary_answer(alloc: Global, rebuilt: &Rebuilt) -> Result<Answer, NoMemory>
 
 /// The answer of `gen` to a count. Refused for want of memory alone.
 pub fn gen_answer(alloc: Global, count: u16) -> Result<Answer, NoMemory>
-    ensures { IfOk result (λ answer. answer_view answer ≡ generated count) }
+    ensures { IfOk result (λ answer. answer_view answer ≡ gen_answer count) }
 {
     let count = count.min(MAX_PARAMS);
     let message = own_message(alloc, count)?;

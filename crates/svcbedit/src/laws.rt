@@ -2,7 +2,7 @@
 
 ghost use Rattle.svcbedit.specs.Laws.{TypesAreScannedBack, AllDataBack, GenIsDone};
 
-use record_laws::records::{ipseckey_composed_back, read_composed_back};
+use record_laws::records::{ipseckey_composed_back, fields_composed_back};
 use svcb_laws::data_texts::read_is_data;
 use record_laws::text_lengths as lengths;
 use svcb_spec::laws::record_read_back;
@@ -15,7 +15,7 @@ pub fn types_are_scanned_back()
 {
     union_text_read_back();
     read_is_data();
-    read_composed_back();
+    fields_composed_back();
     ipseckey_composed_back();
     data_line_fits();
     lengths::types_lines_fit();

@@ -2,13 +2,13 @@
 #![tactic(auto)]
 
 ghost use Rattle.std.specs.Prelude.{◌≡◌};
-ghost use Rattle.svcbedit.specs.Stops.{status_without_words};
+ghost use Rattle.svcbedit.specs.RunErrors.{status_without_words};
 
 use devices::{StdSink, StdSource};
 use run::run;
 use std::process::ExitCode;
 use std::{env, io};
-use stop::Stop;
+use run_error::RunError;
 
 mod commands;
 mod edit;
@@ -26,7 +26,7 @@ mod run;
 mod scan;
 mod show;
 mod spelling;
-mod stop;
+mod run_error;
 #[cfg(test)]
 mod tests;
 #[cfg(test)]
@@ -46,7 +46,7 @@ fn status_without_words(kind: io::ErrorKind) -> u8
     ensures { result ≡ status_without_words kind }
 {
     match kind {
-        io::ErrorKind::OutOfMemory => Stop::NoMemory.status(),
+        io::ErrorKind::OutOfMemory => RunError::NoMemory.status(),
         _ => 7,
     }
 }

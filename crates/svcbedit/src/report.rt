@@ -1,8 +1,8 @@
 //! The texts of reports, and the status that goes with one.
 ghost use Rattle.std.specs.Prelude.{◌≡◌, ◌≢◌, ◌<◌, ◌++◌, string_bytes, IfOk};
 ghost use Rattle.hex.specs.Hex.{encode_lower};
-ghost use Rattle.svcbedit.specs.Faults.{refused};
-ghost use Rattle.svcbedit.specs.Report.{done, line, reply_text, reply_lines, status_of};
+ghost use Rattle.svcbedit.specs.Faults.{refused_answer};
+ghost use Rattle.svcbedit.specs.Report.{done_answer, line, reply_text, reply_lines, status_of};
 ghost use Rattle.svcbedit.specs.ReportView.{answer_view};
 
 use crate::spelling::InputFault;
@@ -58,7 +58,7 @@ pub fn text_answer(alloc: Global, outcome: Outcome, text: &str) -> Result<Answer
 
 /// The answer to an input with a fault of form. Refused for want of memory alone.
 pub fn refused_answer(alloc: Global, fault: InputFault) -> Result<Answer, NoMemory>
-    ensures { IfOk result (λ answer. answer_view answer ≡ refused fault) }
+    ensures { IfOk result (λ answer. answer_view answer ≡ refused_answer fault) }
 {
     Ok(Answer {
         outcome: Outcome::BadInput,
@@ -68,7 +68,7 @@ pub fn refused_answer(alloc: Global, fault: InputFault) -> Result<Answer, NoMemo
 
 /// The answer where a command was done: octets in hexadecimal. Refused for want of memory alone.
 pub fn octets_answer(alloc: Global, octets: &[u8]) -> Result<Answer, NoMemory>
-    ensures { IfOk result (λ answer. answer_view answer ≡ done (encode_lower octets.now)) }
+    ensures { IfOk result (λ answer. answer_view answer ≡ done_answer (encode_lower octets.now)) }
 {
     let mut report = hex::encode(alloc, octets)?;
     report.push('\n')?;

@@ -4,7 +4,7 @@ ghost use Rattle.std.specs.Bool.{OnFalse};
 ghost use Rattle.std.specs.Io.KnownBytes.{IsAtEnd};
 ghost use Rattle.devices.specs.Faults.{Rose};
 ghost use Rattle.devices.specs.Takes.{TakesAtMost, TakesFront};
-ghost use Rattle.svcbedit.specs.Commands.{due, reads, reads_input};
+ghost use Rattle.svcbedit.specs.Commands.{due, is_reading, reads_input};
 ghost use Rattle.svcbedit.specs.Devices.{Draws, Reports};
 ghost use Rattle.svcbedit.specs.ReportView.{answer_view};
 ghost use Rattle.svcbedit.specs.Run.{Ends, Whole, TellsCommand, IsWriteFault, IsNoWriteFault, IsNoReadFault};
@@ -12,7 +12,7 @@ ghost use Rattle.svcbedit.specs.Words.{command_of};
 
 use crate::commands::command_answer;
 use crate::report::Answer;
-use crate::stop::Stop;
+use crate::run_error::RunError;
 use crate::words::{Command, command_in};
 use devices::{MAX_INPUT, Sink, Source, read_input, write_all};
 use std::alloc::Global;
@@ -24,12 +24,12 @@ const UNKNOWN_COMMAND: u8 = 1;
 const NO_COMMAND: &str = "refused: unknown command\n";
 
 /// Reads the input of a command that reads one, and gives the command's answer.
-fn answer<S: Source>(alloc: Global, command: Command, source: &mut S) -> Result<Answer, Stop>
+fn answer<S: Source>(alloc: Global, command: Command, source: &mut S) -> Result<Answer, RunError>
     ensures answer { IfOk result (λ answer. IfSome (due (Some command) (S.left source.old))
         (λ known. answer_view answer ≡ known)) }
     ensures cause { IfErr result IsNoWriteFault }
-    ensures unread { OnFalse (reads command) (IfErr result IsNoReadFault) }
-    ensures source { Draws (reads command) S.left S.faults source.old source.new result }
+    ensures unread { OnFalse (is_reading command) (IfErr result IsNoReadFault) }
+    ensures source { Draws (is_reading command) S.left S.faults source.old source.new result }
 {
     if !command.reads_input() {
         return Ok(command_answer(alloc, command, &[])?);
@@ -39,7 +39,7 @@ fn answer<S: Source>(alloc: Global, command: Command, source: &mut S) -> Result<
 }
 
 /// Writes a report, and gives its status.
-fn report<K: Sink>(sink: &mut K, status: u8, text: &str) -> Result<u8, Stop>
+fn report<K: Sink>(sink: &mut K, status: u8, text: &str) -> Result<u8, RunError>
     requires { status < 4 }
     ensures status { MatchResult result (λ given. given ≡ status) IsWriteFault }
     ensures sink { Reports K.held K.faults sink.old sink.new
@@ -55,7 +55,7 @@ fn perform<S: Source, K: Sink>(
     words: &[String],
     source: &mut S,
     sink: &mut K,
-) -> Result<u8, Stop>
+) -> Result<u8, RunError>
     ensures status { TellsCommand (command_of words.now) result }
     ensures unread { OnFalse (reads_input (command_of words.now)) (IfErr result IsNoReadFault) }
     ensures source { Draws (reads_input (command_of words.now))

@@ -6,7 +6,7 @@ ghost use Rattle.svcbedit.specs.Places.{place_of};
 ghost use Rattle.svcbedit.specs.Pushes.{hexadecimal_octets};
 ghost use Rattle.svcbedit.specs.Faults.{fault_text, place_fault};
 ghost use Rattle.svcbedit.specs.Show.{spelled_octets};
-ghost use Rattle.svcbedit.specs.Spelling.{needed, pushes_of, spelled, SpellsAs};
+ghost use Rattle.svcbedit.specs.Spelling.{line_or_fault, pushes_of, spelling_of, SpellsAs};
 ghost use Rattle.svcbedit.specs.SpellingView.{spelled_view};
 ghost use Rattle.svcbedit.specs.declared.spelling.SpellError.TheVariants as errors;
 
@@ -97,7 +97,7 @@ pub struct Spelling {
 
 /// Reads the first line.
 fn place_line(input: &mut Lines<'_>) -> Result<Place, InputFault>
-    ensures value { result ≡ needed 1 (option_and_then place_of (slice_get input.old 0)) }
+    ensures value { result ≡ line_or_fault 1 (option_and_then place_of (slice_get input.old 0)) }
     ensures rest { input.new ≡ drop 1 input.old }
 {
     let line = input.next();
@@ -107,7 +107,7 @@ fn place_line(input: &mut Lines<'_>) -> Result<Place, InputFault>
 /// Reads the next line, which has this number, as hexadecimal.
 fn octets_line(alloc: Global, input: &mut Lines<'_>, number: u64) -> Result<Octets, SpellError>
     ensures value { SpellsAs (λ octets. octets) result
-        (needed number (option_and_then hexadecimal_octets (slice_get input.old 0))) }
+        (line_or_fault number (option_and_then hexadecimal_octets (slice_get input.old 0))) }
     ensures rest { input.new ≡ drop 1 input.old }
 {
     let line = input.next().ok_or(InputFault::BadLine(number))?;
@@ -150,7 +150,7 @@ fn push_lines(alloc: Global, mut input: Lines<'_>) -> Result<Vec<AllValues>, Spe
 /// Reads an input of `edit`. `Fault` is the first fault of form in it, and `NoMemory` want of memory for what it spells.
 pub fn read_spelling(alloc: Global, input: &[u8]) -> Result<Spelling, SpellError>
     requires { length input.now ≤ MAX_INPUT }
-    ensures value { SpellsAs spelled_view result (spelled input.now) }
+    ensures value { SpellsAs spelled_view result (spelling_of input.now) }
     ensures within { IfOk result (λ s. s.place.start + s.place.len ≤ length s.message) }
     ensures limit { IfOk result (λ s. s.place.limit < 2 ^ 31) }
 {

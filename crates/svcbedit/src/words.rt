@@ -1,7 +1,7 @@
 //! The words of the command line.
 ghost use Rattle.std.specs.Prelude.{◌≡◌, map, string_bytes};
-ghost use Rattle.svcbedit.specs.Commands.{reads};
-ghost use Rattle.svcbedit.specs.Words.{alone, only_type, type_of, numbered_type, number_within};
+ghost use Rattle.svcbedit.specs.Commands.{is_reading};
+ghost use Rattle.svcbedit.specs.Words.{command_alone, only_type, type_of, numbered_type, number_within};
 ghost use Rattle.svcbedit.specs.Words.{only_count, count_of, command_of};
 
 use crate::numbers::number;
@@ -24,7 +24,7 @@ impl Command {
     /// Whether the command reads the input.
     #[tactic(auto, unfolding(crate::specs::Commands::reads))]
     pub fn reads_input(self) -> bool
-        ensures { result ≡ reads self }
+        ensures { result ≡ is_reading self }
     {
         match self {
             Command::Edit | Command::Show(_) | Command::Scan(_) => true,
@@ -35,7 +35,7 @@ impl Command {
 
 /// A command, where no word follows its name.
 fn alone_in(command: Command, more: &[String]) -> Option<Command>
-    ensures { result ≡ alone command (map string_bytes more.now) }
+    ensures { result ≡ command_alone command (map string_bytes more.now) }
 {
     if more.is_empty() { Some(command) } else { None }
 }

@@ -6,15 +6,15 @@ use Rattle.std.proofs.lemmas.Bool.Decides.{nat_tests}
 use Rattle.std.proofs.lemmas.List.{append-nil}
 use Rattle.std.specs.Option.{option_map_or}
 use Rattle.std.specs.List.{flat_map, AllByRecursion}
-use Rattle.name_spec.specs.Printed.{Written, written}
+use Rattle.name_spec.specs.Printed.{Written, octet_text}
 use Rattle.text_spec.specs.declared.errors.ScanError.{ScanError}
 use Rattle.text_spec.specs.declared.errors.ScanError.TheVariants.{BadSymbol, BadEscape, OpenQuote, BadBracket, TrailingTokens}
 use Rattle.text_spec.specs.declared.lexeme.Lexeme.{Lexeme}
 use Rattle.text_spec.specs.declared.lexeme.Lexeme.TheVariants.{Octet, Quote, Gap}
 use Rattle.text_spec.specs.declared.lexeme.Symbol.{Symbol}
 use Rattle.text_spec.specs.declared.lexeme.Place.{Place}
-use Rattle.text_spec.specs.Lexing.{reads, end_at, symbol_step, quoted_step, open_step, ended_step, with_front, lexemes_at}
-use Rattle.text_spec.specs.Pieces.{is_blank, is_quotable, is_stray, is_stray_in_quotes, symbol_of, grouped, IsSymbol, NoEscape, Piece, Blank, LineEnd, Comment, Opening, Closing, Bare, Quoted, spelled, lexemes_of, IsTailRow, IsRow, IsEntry, HasTokens, FaultInQuotes, FaultAt, FaultAfter, HasFault}
+use Rattle.text_spec.specs.Lexing.{front_of, end_at, symbol_step, quoted_step, open_step, ended_step, with_front, lexemes_at}
+use Rattle.text_spec.specs.Pieces.{is_blank, is_quotable, is_stray, is_stray_in_quotes, symbol_of, token_groups, IsSymbol, NoEscape, Piece, Blank, LineEnd, Comment, Opening, Closing, Bare, Quoted, piece_octets, lexemes_of, IsTailRow, IsPieceRow, IsEntry, HasTokens, FaultInQuotes, FaultAt, FaultAfter, HasFault}
 use Rattle.text_spec.specs.Tokens.{start, fault_of, found_in, text_fault, tokens_in}
 use Rattle.text_spec.proofs.Skips.{lexemes_at-end}
 use Rattle.text_spec.proofs.Escapes.{escape_of-none}
@@ -26,63 +26,63 @@ use Rattle.text_spec.proofs.Steps.{lexemes_of_symbols, entry-refuses, string-ref
 module _ (within : ℕ → Type 0) (ended : Type 0) (rest : List ℕ) (answer : Result (List Lexeme) ScanError)
     (here : (depth : ℕ) → within depth → lexemes_at (in_entry depth) 0 rest ≡ answer) (there : ended → lexemes_at behind 0 rest ≡ answer) where
   tail_again : (pieces : List Piece) → IsTailRow ended rest pieces
-      → lexemes_at behind 0 (flat_map spelled pieces ++ rest) ≡ with_lexemes (flat_map lexemes_of pieces) answer
+      → lexemes_at behind 0 (flat_map piece_octets pieces ++ rest) ≡ with_lexemes (flat_map lexemes_of pieces) answer
   tail_again [] row = there row ∙ sym (with_lexemes-nil answer)
   tail_again (Blank c ∷ pieces) row =
-      let following = flat_map spelled pieces ++ rest in
+      let following = flat_map piece_octets pieces ++ rest in
       blank-read_behind c following row.0 ∙ one_more Gap (flat_map lexemes_of pieces) answer (lexemes_at behind 0 following) (tail_again pieces row.1)
   tail_again (LineEnd ∷ pieces) row =
-      let following = flat_map spelled pieces ++ rest in
+      let following = flat_map piece_octets pieces ++ rest in
       line-read_behind following ∙ one_more Gap (flat_map lexemes_of pieces) answer (lexemes_at behind 0 following) (tail_again pieces row)
   tail_again (Comment text ∷ pieces) row =
-      let following = flat_map spelled pieces ++ rest in
-      ap (λ left. lexemes_at behind 0 (59 ∷ left)) (append_assoc text (flat_map spelled pieces) rest)
+      let following = flat_map piece_octets pieces ++ rest in
+      ap (λ left. lexemes_at behind 0 (59 ∷ left)) (append_assoc text (flat_map piece_octets pieces) rest)
       ∙ comment-read_behind text following row.0 ∙ one_more Gap (flat_map lexemes_of pieces) answer (lexemes_at behind 0 following) (tail_again pieces row.1)
   tail_again (Opening ∷ pieces) row = absurd row
   tail_again (Closing ∷ pieces) row = absurd row
   tail_again (Bare symbol ∷ pieces) row = absurd row
   tail_again (Quoted symbols ∷ pieces) row = absurd row
 
-  row_again : (depth : ℕ) (pieces : List Piece) → IsRow within ended rest depth pieces
-      → lexemes_at (in_entry depth) 0 (flat_map spelled pieces ++ rest) ≡ with_lexemes (flat_map lexemes_of pieces) answer
+  row_again : (depth : ℕ) (pieces : List Piece) → IsPieceRow within ended rest depth pieces
+      → lexemes_at (in_entry depth) 0 (flat_map piece_octets pieces ++ rest) ≡ with_lexemes (flat_map lexemes_of pieces) answer
   row_again depth [] row = here depth row ∙ sym (with_lexemes-nil answer)
   row_again depth (Blank c ∷ pieces) row =
-      let following = flat_map spelled pieces ++ rest in
+      let following = flat_map piece_octets pieces ++ rest in
       blank-read depth c following row.0 ∙ one_more Gap (flat_map lexemes_of pieces) answer (lexemes_at (in_entry depth) 0 following) (row_again depth pieces row.1)
   row_again zero (LineEnd ∷ pieces) row =
-      let following = flat_map spelled pieces ++ rest in
+      let following = flat_map piece_octets pieces ++ rest in
       line-read following ∙ one_more Gap (flat_map lexemes_of pieces) answer (lexemes_at behind 0 following) (tail_again pieces row)
   row_again (suc depth) (LineEnd ∷ pieces) row =
-      let following = flat_map spelled pieces ++ rest in
+      let following = flat_map piece_octets pieces ++ rest in
       line-read_within depth following ∙ one_more Gap (flat_map lexemes_of pieces) answer (lexemes_at (in_entry (suc depth)) 0 following) (row_again (suc depth) pieces row)
   row_again depth (Comment text ∷ pieces) row =
-      let following = flat_map spelled pieces ++ rest in
-      ap (λ left. lexemes_at (in_entry depth) 0 (59 ∷ left)) (append_assoc text (flat_map spelled pieces) rest)
+      let following = flat_map piece_octets pieces ++ rest in
+      ap (λ left. lexemes_at (in_entry depth) 0 (59 ∷ left)) (append_assoc text (flat_map piece_octets pieces) rest)
       ∙ comment-read depth text following row.0 ∙ one_more Gap (flat_map lexemes_of pieces) answer (lexemes_at (in_entry depth) 0 following) (row_again depth pieces row.1)
   row_again depth (Opening ∷ pieces) row =
-      let following = flat_map spelled pieces ++ rest in
+      let following = flat_map piece_octets pieces ++ rest in
       opening-read depth following ∙ one_more Gap (flat_map lexemes_of pieces) answer (lexemes_at (in_entry (suc depth)) 0 following) (row_again (suc depth) pieces row)
   row_again zero (Closing ∷ pieces) row = absurd row
   row_again (suc depth) (Closing ∷ pieces) row =
-      let following = flat_map spelled pieces ++ rest in
+      let following = flat_map piece_octets pieces ++ rest in
       closing-read depth following ∙ one_more Gap (flat_map lexemes_of pieces) answer (lexemes_at (in_entry depth) 0 following) (row_again depth pieces row)
   row_again depth (Bare symbol ∷ pieces) row =
-      let following = flat_map spelled pieces ++ rest in
-      ap (lexemes_at (in_entry depth) 0) (append_assoc (spelled (Bare symbol)) (flat_map spelled pieces) rest)
+      let following = flat_map piece_octets pieces ++ rest in
+      ap (lexemes_at (in_entry depth) 0) (append_assoc (piece_octets (Bare symbol)) (flat_map piece_octets pieces) rest)
       ∙ bare-read depth symbol following row.0
       ∙ one_more (Octet (symbol_of symbol)) (flat_map lexemes_of pieces) answer (lexemes_at (in_entry depth) 0 following) (row_again depth pieces row.1)
   row_again depth (Quoted symbols ∷ pieces) row =
-      let following = flat_map spelled pieces ++ rest in
-      ap (lexemes_at (in_entry depth) 0) (append_assoc (spelled (Quoted symbols)) (flat_map spelled pieces) rest)
+      let following = flat_map piece_octets pieces ++ rest in
+      ap (lexemes_at (in_entry depth) 0) (append_assoc (piece_octets (Quoted symbols)) (flat_map piece_octets pieces) rest)
       ∙ string-read depth symbols following row.0
       ∙ ap (with_lexemes (lexemes_of (Quoted symbols))) (row_again depth pieces row.1)
       ∙ sym (with_lexemes-append (lexemes_of (Quoted symbols)) (flat_map lexemes_of pieces) answer)
 
 -- an entry is read again
 pub entry_again : (depth : ℕ) (pieces : List Piece) → IsEntry depth pieces
-    → lexemes_at (in_entry depth) 0 (flat_map spelled pieces) ≡ Ok (flat_map lexemes_of pieces)
+    → lexemes_at (in_entry depth) 0 (flat_map piece_octets pieces) ≡ Ok (flat_map lexemes_of pieces)
 entry_again depth pieces row =
-    ap (lexemes_at (in_entry depth) 0) (sym (append-nil (flat_map spelled pieces)))
+    ap (lexemes_at (in_entry depth) 0) (sym (append-nil (flat_map piece_octets pieces)))
     ∙ row_again (λ open_brackets. open_brackets ≡ 0) (Unit {0}) [] (Ok [])
     (λ depth' none. lexemes_at-end (in_entry depth') [] refl ∙ ap (λ n. end_at (in_entry n)) none) (λ _. lexemes_at-end behind [] refl) depth pieces row
     ∙ ap Ok (append-nil (flat_map lexemes_of pieces))
@@ -90,7 +90,7 @@ entry_again depth pieces row =
 pub has_tokens : (text : List ℕ) (tokens : List (List Symbol)) → HasTokens text tokens → (text_fault text ≡ None) × (tokens_in text ≡ tokens)
 has_tokens text tokens (pieces, row, is, tokens_are) =
     let again = ap (lexemes_at start 0) is ∙ entry_again 0 pieces row in
-    (ap fault_of again, ap (λ answer. grouped None (found_in answer)) again ∙ sym tokens_are)
+    (ap fault_of again, ap (λ answer. token_groups None (found_in answer)) again ∙ sym tokens_are)
 
 -- ---- faults
 
@@ -99,7 +99,7 @@ not_zero n positive = grind (arith, nat_tests)
 
 escape-refused : (place : Place) (rest : List ℕ) → NoEscape rest → symbol_step place 92 rest ≡ Err BadEscape
 escape-refused place rest none =
-    ap (λ o. option_map_or (λ e. reads (Octet (record { octet = e.0; escaped = true })) place e.1) o (Err BadEscape)) (escape_of-none rest none)
+    ap (λ o. option_map_or (λ e. front_of (Octet (record { octet = e.0; escaped = true })) place e.1) o (Err BadEscape)) (escape_of-none rest none)
 
 stray-refused : (place : Place) (c : ℕ) (rest : List ℕ) → is_stray c ≡ true → open_step place c rest ≡ Err BadSymbol
 stray-refused place c rest stray = grind (arith, nat_tests)
@@ -135,9 +135,9 @@ string_refused rest fault depth has = absurd has
 
 -- a string that is not closed is refused
 unclosed_refused : (depth : ℕ) (symbols : List Written) (after : List ℕ) (fault : ScanError) → AllByRecursion (IsSymbol is_quotable) symbols
-    → FaultInQuotes after fault → lexemes_at (in_entry depth) 0 (34 ∷ flat_map written symbols ++ after) ≡ Err fault
+    → FaultInQuotes after fault → lexemes_at (in_entry depth) 0 (34 ∷ flat_map octet_text symbols ++ after) ≡ Err fault
 unclosed_refused depth symbols after fault quotable has =
-    quote-begins depth (flat_map written symbols ++ after)
+    quote-begins depth (flat_map octet_text symbols ++ after)
     ∙ ap (with_front Quote) (symbols-read depth symbols after quotable ∙ ap (with_lexemes (lexemes_of_symbols symbols)) (string_refused after fault depth has))
 
 -- a text that has a fault is refused with it

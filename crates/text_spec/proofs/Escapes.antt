@@ -4,7 +4,7 @@ use Rattle.std.specs.Prelude.{nat_le, ◌⊎◌}
 use Rattle.std.proofs.lemmas.Bool.{cases_Bool}
 use Rattle.std.proofs.lemmas.Bool.Decides.{nat_tests}
 use Rattle.std.specs.Char.{is_ascii_digit}
-use Rattle.name_spec.specs.Printed.{Written, Plain, Escaped, Decimal, written}
+use Rattle.name_spec.specs.Printed.{Written, Plain, Escaped, Decimal, octet_text}
 use Rattle.text_spec.specs.Lexing.{three_digits, decimal_of, escape_of}
 use Rattle.text_spec.specs.Pieces.{is_escapable, IsSymbol, NoEscape}
 
@@ -25,7 +25,7 @@ escape_of-decimal c rest octet = grind (arith, nat_tests)
 
 -- behind a backslash stand these octets, and an escape begins there
 abbrev pub Escape : List ℕ → Type 0
-Escape rest = (symbol : Written) × (more : List ℕ) × IsSymbol (λ _. false) symbol × (92 ∷ rest ≡ written symbol ++ more)
+Escape rest = (symbol : Written) × (more : List ℕ) × IsSymbol (λ _. false) symbol × (92 ∷ rest ≡ octet_text symbol ++ more)
 
 digits_back : (a b c : ℕ) → (is_ascii_digit a && is_ascii_digit b && is_ascii_digit c && nat_le (three_digits a b c) 255) ≡ true
     → (48 + three_digits a b c / 100 ≡ a) × (48 + three_digits a b c / 10 % 10 ≡ b) × (48 + three_digits a b c % 10 ≡ c) × (three_digits a b c < 256)

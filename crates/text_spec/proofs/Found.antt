@@ -7,11 +7,11 @@ use Rattle.std.proofs.lemmas.Bool.Decides.{nat_tests}
 use Rattle.std.proofs.lemmas.List.{append-nil, take-append-drop}
 use Rattle.std.proofs.lemmas.List.Sums.{take_while-cons}
 use Rattle.std.specs.List.{flat_map, take_while, AllByRecursion}
-use Rattle.name_spec.specs.Printed.{Written, Plain, Escaped, Decimal, written}
+use Rattle.name_spec.specs.Printed.{Written, Plain, Escaped, Decimal, octet_text}
 use Rattle.text_spec.specs.declared.errors.ScanError.{ScanError}
 use Rattle.text_spec.specs.declared.errors.ScanError.TheVariants.{BadSymbol, BadEscape, OpenQuote, BadBracket, TrailingTokens}
 use Rattle.text_spec.specs.Lexing.{line_len}
-use Rattle.text_spec.specs.Pieces.{is_blank, is_control, is_bare, is_quotable, is_stray, is_stray_in_quotes, Piece, Blank, LineEnd, Comment, Opening, Closing, Bare, Quoted, spelled, tokens_of, IsSymbol, IsComment, IsTailRow, IsRow, IsEntry, HasTokens, FaultInQuotes, FaultAt, FaultAfter, HasFault}
+use Rattle.text_spec.specs.Pieces.{is_blank, is_control, is_bare, is_quotable, is_stray, is_stray_in_quotes, Piece, Blank, LineEnd, Comment, Opening, Closing, Bare, Quoted, piece_octets, tokens_of, IsSymbol, IsComment, IsTailRow, IsPieceRow, IsEntry, HasTokens, FaultInQuotes, FaultAt, FaultAfter, HasFault}
 use Rattle.text_spec.specs.Tokens.{text_fault, tokens_in}
 use Rattle.text_spec.proofs.Escapes.{escape_or_none}
 use Rattle.text_spec.proofs.Again.{has_tokens, has_fault}
@@ -19,9 +19,9 @@ use Rattle.text_spec.proofs.Again.{has_tokens, has_fault}
 -- ---- pieces in front
 
 -- the text of a piece more in front of pieces and what follows them
-spelled_on : (piece : Piece) (pieces : List Piece) (text rest : List ℕ) → text ≡ flat_map spelled pieces ++ rest
-    → spelled piece ++ text ≡ flat_map spelled (piece ∷ pieces) ++ rest
-spelled_on piece pieces text rest is = ap (λ left. spelled piece ++ left) is ∙ sym (append_assoc (spelled piece) (flat_map spelled pieces) rest)
+spelled_on : (piece : Piece) (pieces : List Piece) (text rest : List ℕ) → text ≡ flat_map piece_octets pieces ++ rest
+    → piece_octets piece ++ text ≡ flat_map piece_octets (piece ∷ pieces) ++ rest
+spelled_on piece pieces text rest is = ap (λ left. piece_octets piece ++ left) is ∙ sym (append_assoc (piece_octets piece) (flat_map piece_octets pieces) rest)
 
 -- a case for each answer of a test
 by_test : {A : Type 0} (b : Bool) → (b ≡ true → A) → (b ≡ false → A) → A
@@ -37,7 +37,7 @@ escape_is_symbol plain (Escaped c) escape = escape
 escape_is_symbol plain (Decimal c) escape = escape
 
 -- what is behind an escape is shorter
-behind_escape : (rest more : List ℕ) (symbol : Written) → 92 ∷ rest ≡ written symbol ++ more → length more ≤ length rest
+behind_escape : (rest more : List ℕ) (symbol : Written) → 92 ∷ rest ≡ octet_text symbol ++ more → length more ≤ length rest
 behind_escape rest more (Plain c) is = omega (arith, ap length is)
 behind_escape rest more (Escaped c) is = omega (arith, ap length is)
 behind_escape rest more (Decimal c) is = omega (arith, ap length is)
@@ -57,7 +57,7 @@ comment_cut (c ∷ rest) =
     (λ more. subst Cut (sym (len true more)) ((more, cut.0), cut.1))
     (λ ends. subst Cut (sym (len false ends)) (tt, eqb_is c 10 (not-false (c == 10) ends)))
 
-comment_text : (rest : List ℕ) → 59 ∷ rest ≡ spelled (Comment (take (line_len rest) rest)) ++ drop (line_len rest) rest
+comment_text : (rest : List ℕ) → 59 ∷ rest ≡ piece_octets (Comment (take (line_len rest) rest)) ++ drop (line_len rest) rest
 comment_text rest = ap (λ left. 59 ∷ left) (sym (take-append-drop (line_len rest) rest))
 
 -- ---- behind the entry
@@ -68,7 +68,7 @@ EndsTail [] = Unit {0}
 EndsTail (c ∷ rest) = FaultAfter (c ∷ rest) TrailingTokens
 
 abbrev Tail : List ℕ → Type 0
-Tail text = (pieces : List Piece) × (rest : List ℕ) × (text ≡ flat_map spelled pieces ++ rest) × IsTailRow (EndsTail rest) rest pieces
+Tail text = (pieces : List Piece) × (rest : List ℕ) × (text ≡ flat_map piece_octets pieces ++ rest) × IsTailRow (EndsTail rest) rest pieces
 
 trailing : (c : ℕ) → is_blank c ≡ false → (c == 10) ≡ false → (c == 59) ≡ false → not (is_blank c || (c == 10) || (c == 59)) ≡ true
 trailing c not_blank not_line not_semicolon = rw (not_blank, not_line, not_semicolon) refl
@@ -101,12 +101,12 @@ abbrev EndsString : List ℕ → Type 0
 EndsString rest = ((following : List ℕ) × (rest ≡ 34 ∷ following)) ⊎ ((fault : ScanError) × FaultInQuotes rest fault)
 
 abbrev String : List ℕ → Type 0
-String text = (symbols : List Written) × (rest : List ℕ) × (text ≡ flat_map written symbols ++ rest) × AllByRecursion (IsSymbol is_quotable) symbols × EndsString rest
+String text = (symbols : List Written) × (rest : List ℕ) × (text ≡ flat_map octet_text symbols ++ rest) × AllByRecursion (IsSymbol is_quotable) symbols × EndsString rest
 
 -- one symbol more in front
-symbol_on : (symbol : Written) (text : List ℕ) → IsSymbol is_quotable symbol → String text → String (written symbol ++ text)
+symbol_on : (symbol : Written) (text : List ℕ) → IsSymbol is_quotable symbol → String text → String (octet_text symbol ++ text)
 symbol_on symbol text quotable (symbols, rest, is, all_quotable, ends) =
-    (symbol ∷ symbols, rest, ap (λ left. written symbol ++ left) is ∙ sym (append_assoc (written symbol) (flat_map written symbols) rest), (quotable, all_quotable), ends)
+    (symbol ∷ symbols, rest, ap (λ left. octet_text symbol ++ left) is ∙ sym (append_assoc (octet_text symbol) (flat_map octet_text symbols) rest), (quotable, all_quotable), ends)
 
 quotable : (c : ℕ) → (c == 34) ≡ false → is_stray_in_quotes c ≡ false → (c == 92) ≡ false → is_quotable c ≡ true
 quotable c no_quote not_stray no_backslash = rw (no_quote, not_stray, no_backslash) refl
@@ -139,7 +139,7 @@ abbrev EndsSo : Ending → List ℕ → Type 0
 EndsSo Complete rest = rest ≡ []
 EndsSo (Faulty fault) rest = Unit {0}
 EndsSo (Unclosed symbols after fault) rest =
-    (rest ≡ 34 ∷ flat_map written symbols ++ after) × AllByRecursion (IsSymbol is_quotable) symbols × FaultInQuotes after fault
+    (rest ≡ 34 ∷ flat_map octet_text symbols ++ after) × AllByRecursion (IsSymbol is_quotable) symbols × FaultInQuotes after fault
 
 abbrev EndsWithin : Ending → List ℕ → ℕ → Type 0
 EndsWithin Complete rest depth = depth ≡ 0
@@ -152,8 +152,8 @@ EndsBehind (Faulty fault) rest = FaultAfter rest fault
 EndsBehind (Unclosed symbols after fault) rest = ⊥
 
 abbrev Row : ℕ → List ℕ → Type 0
-Row depth text = (ending : Ending) × (pieces : List Piece) × (rest : List ℕ) × (text ≡ flat_map spelled pieces ++ rest) × EndsSo ending rest
-    × IsRow (EndsWithin ending rest) (EndsBehind ending rest) rest depth pieces
+Row depth text = (ending : Ending) × (pieces : List Piece) × (rest : List ℕ) × (text ≡ flat_map piece_octets pieces ++ rest) × EndsSo ending rest
+    × IsPieceRow (EndsWithin ending rest) (EndsBehind ending rest) rest depth pieces
 
 -- what an octet is in an entry
 data Kind (c : ℕ) : Type 0 where
@@ -214,13 +214,13 @@ closing_row (suc depth) rest shorter =
     (ending, Closing ∷ pieces, left, spelled_on Closing pieces rest left is, ends, row)
 
 -- a closed string, and what follows it
-string_text : (symbols : List Written) (following : List ℕ) → 34 ∷ flat_map written symbols ++ 34 ∷ following ≡ spelled (Quoted symbols) ++ following
-string_text symbols following = ap (λ left. 34 ∷ left) (sym (append_assoc (flat_map written symbols) (34 ∷ []) following))
+string_text : (symbols : List Written) (following : List ℕ) → 34 ∷ flat_map octet_text symbols ++ 34 ∷ following ≡ piece_octets (Quoted symbols) ++ following
+string_text symbols following = ap (λ left. 34 ∷ left) (sym (append_assoc (flat_map octet_text symbols) (34 ∷ []) following))
 
 string_row : (depth : ℕ) (rest : List ℕ) → Shorter rest → String rest → Row depth (34 ∷ rest)
 string_row depth rest shorter (symbols, left, is, all_quotable, inl (following, closes)) =
-    let text = ap (λ end. 34 ∷ end) (is ∙ ap (λ end. flat_map written symbols ++ end) closes) ∙ string_text symbols following in
-    let (ending, pieces, last, follows, ends, row) = shorter depth following (omega (arith, ap length text, length-append (spelled (Quoted symbols)) following)) in
+    let text = ap (λ end. 34 ∷ end) (is ∙ ap (λ end. flat_map octet_text symbols ++ end) closes) ∙ string_text symbols following in
+    let (ending, pieces, last, follows, ends, row) = shorter depth following (omega (arith, ap length text, length-append (piece_octets (Quoted symbols)) following)) in
     (ending, Quoted symbols ∷ pieces, last, text ∙ spelled_on (Quoted symbols) pieces following last follows, ends, (all_quotable, row))
 string_row depth rest shorter (symbols, left, is, all_quotable, inr (fault, has)) =
     (Unclosed symbols left fault, [], 34 ∷ rest, refl, (ap (λ end. 34 ∷ end) is, all_quotable, has), tt)
@@ -259,14 +259,14 @@ row_of (suc n) (c ∷ rest) within depth = front_row depth c rest (λ depth' tex
 -- ---- whole texts
 
 abbrev EntryOrFault : List ℕ → Type 0
-EntryOrFault text = ((pieces : List Piece) × IsEntry 0 pieces × (text ≡ flat_map spelled pieces)) ⊎ ((fault : ScanError) × HasFault 0 text fault)
+EntryOrFault text = ((pieces : List Piece) × IsEntry 0 pieces × (text ≡ flat_map piece_octets pieces)) ⊎ ((fault : ScanError) × HasFault 0 text fault)
 
 by_row : (text : List ℕ) → Row 0 text → EntryOrFault text
 by_row text (Complete, pieces, rest, is, ends, row) =
     inl (
       pieces,
-      subst (λ left. IsRow (λ depth. depth ≡ 0) (Unit {0}) left 0 pieces) ends row,
-      is ∙ ap (λ left. flat_map spelled pieces ++ left) ends ∙ append-nil (flat_map spelled pieces),
+      subst (λ left. IsPieceRow (λ depth. depth ≡ 0) (Unit {0}) left 0 pieces) ends row,
+      is ∙ ap (λ left. flat_map piece_octets pieces ++ left) ends ∙ append-nil (flat_map piece_octets pieces),
     )
 by_row text (Faulty fault, pieces, rest, is, ends, row) = inr (fault, (pieces, rest, is, inl row))
 by_row text (Unclosed symbols after fault, pieces, rest, is, ends, row) = inr (fault, (pieces, rest, is, inr (symbols, after, ends.0, ends.1, ends.2, row)))

@@ -7,7 +7,7 @@ use Rattle.std.specs.List.{flat_map}
 use Rattle.std.proofs.lemmas.Bool.Decides.{nat_tests}
 use Rattle.std.proofs.lemmas.Grind.{flat_map-append}
 use Rattle.name_spec.specs.Names.{AreLabels}
-use Rattle.name_spec.specs.Printed.{Written, Plain, Escaped, Decimal, written, is_special_in_name, is_visible, printed_as, printed_label, printed_name_with_dot}
+use Rattle.name_spec.specs.Printed.{Written, Plain, Escaped, Decimal, octet_text, is_special_in_name, is_visible, printed_as, printed_label, printed_name_with_dot}
 use Rattle.name_spec.specs.AddressLaws.{AreOctets}
 use Rattle.text_spec.specs.declared.lexeme.Symbol.{Symbol}
 use Rattle.text_spec.specs.Pieces.{symbol_of, IsTokenText}
@@ -115,12 +115,12 @@ name_of-symbols (c ∷ label) labels h =
 
 -- ---- the text of a name
 
-written-name : (labels : List (List ℕ)) → flat_map written (name_written labels) ≡ flat_map (λ label. printed_label label ++ 46 ∷ []) labels
+written-name : (labels : List (List ℕ)) → flat_map octet_text (name_written labels) ≡ flat_map (λ label. printed_label label ++ 46 ∷ []) labels
 written-name [] = refl
 written-name (label ∷ labels) =
-    flat_map-append written (label_written label ++ dot ∷ []) (name_written labels)
-    ∙ ap (λ (t : List ℕ). t ++ flat_map written (name_written labels))
-    (flat_map-append written (label_written label) (dot ∷ []) ∙ ap (λ (t : List ℕ). t ++ 46 ∷ []) (written-printed is_special_in_name label))
+    flat_map-append octet_text (label_written label ++ dot ∷ []) (name_written labels)
+    ∙ ap (λ (t : List ℕ). t ++ flat_map octet_text (name_written labels))
+    (flat_map-append octet_text (label_written label) (dot ∷ []) ∙ ap (λ (t : List ℕ). t ++ 46 ∷ []) (written-printed is_special_in_name label))
     ∙ ap (λ (t : List ℕ). (printed_label label ++ 46 ∷ []) ++ t) (written-name labels)
 
 octets_front : (front behind : List ℕ) → AreOctets (front ++ behind) → AreOctets front × AreOctets behind
@@ -139,7 +139,7 @@ AreBare-name (label ∷ labels) h =
 
 -- bare symbols that aren't none are wholly a token
 token_text-symbols : (symbols : List Written) → 0 < length symbols → AreBare symbols
-    → IsTokenText (flat_map written symbols) (map symbol_of symbols)
+    → IsTokenText (flat_map octet_text symbols) (map symbol_of symbols)
 token_text-symbols [] some h = absurd (omega arith)
 token_text-symbols (symbol ∷ symbols) some h = token_text-bare symbol symbols h
 

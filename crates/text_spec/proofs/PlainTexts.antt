@@ -16,7 +16,7 @@ use Rattle.std.proofs.lemmas.Str.Parse.{digit_from_value}
 use Rattle.base64.specs.Rfc4648.{encode_symbols, padding_len}
 use Rattle.hex.specs.Hex as hex
 use Rattle.hex.proofs.HexLemmas.{length-encode_with}
-use Rattle.name_spec.specs.Printed.{Plain, written}
+use Rattle.name_spec.specs.Printed.{Plain, octet_text}
 use Rattle.name_spec.specs.Addresses.{ipv4_text, ipv6_text}
 use Rattle.name_spec.specs.AddressLaws.{AreOctets}
 use Rattle.text_spec.specs.declared.lexeme.Symbol.{Symbol}
@@ -36,7 +36,7 @@ ArePlain text = AllByRecursion (λ c. IsTrue (is_bare c)) text
 abbrev pub plain_token : List ℕ → List Symbol
 plain_token text = map symbol_of (map Plain text)
 
-written-plain : (text : List ℕ) → flat_map written (map Plain text) ≡ text
+written-plain : (text : List ℕ) → flat_map octet_text (map Plain text) ≡ text
 written-plain [] = refl
 written-plain (c ∷ text) = ap (λ (t : List ℕ). c ∷ t) (written-plain text)
 

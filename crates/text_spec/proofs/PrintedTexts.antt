@@ -4,10 +4,10 @@ use Rattle.std.proofs.Common.{◌≡◌, ℕ, ◌<◌, Bool, true, false, cond, 
 use Rattle.std.proofs.lemmas.Bool.{cases_eq, ne_eqb}
 use Rattle.std.proofs.lemmas.Bool.Decides.{nat_tests}
 use Rattle.std.specs.List.{flat_map, AllByRecursion}
-use Rattle.name_spec.specs.Printed.{Written, Plain, Escaped, Decimal, written, is_special, is_special_in_name, is_visible, printed_as, printed_octet, printed_octets}
+use Rattle.name_spec.specs.Printed.{Written, Plain, Escaped, Decimal, octet_text, is_special, is_special_in_name, is_visible, printed_as, printed_octet, printed_octets}
 use Rattle.name_spec.specs.AddressLaws.{AreOctets}
 use Rattle.text_spec.specs.declared.lexeme.Symbol.{Symbol}
-use Rattle.text_spec.specs.Pieces.{Piece, Bare, symbol_of, spelled, is_bare, is_escapable, IsSymbol, AreParts, lexemes_of, grouped, tokens_of, IsTokenText}
+use Rattle.text_spec.specs.Pieces.{Piece, Bare, symbol_of, piece_octets, is_bare, is_escapable, IsSymbol, AreParts, lexemes_of, token_groups, tokens_of, IsTokenText}
 use Rattle.text_spec.specs.Scanning.{octets_of, is_marker}
 
 -- ---- symbols that stand bare
@@ -26,13 +26,13 @@ pub AreParts-bare : (symbols : List Written) → AreBare symbols → AreParts (b
 AreParts-bare [] h = tt
 AreParts-bare (symbol ∷ symbols) h = (h.0, AreParts-bare symbols h.1)
 
-pub spelled-bare : (symbols : List Written) → flat_map spelled (bare_pieces symbols) ≡ flat_map written symbols
+pub spelled-bare : (symbols : List Written) → flat_map piece_octets (bare_pieces symbols) ≡ flat_map octet_text symbols
 spelled-bare [] = refl
-spelled-bare (symbol ∷ symbols) = ap (λ (t : List ℕ). written symbol ++ t) (spelled-bare symbols)
+spelled-bare (symbol ∷ symbols) = ap (λ (t : List ℕ). octet_text symbol ++ t) (spelled-bare symbols)
 
 -- they are added to the token so far
 grouped-bare : (token : List Symbol) (symbols : List Written)
-    → grouped (Some token) (flat_map lexemes_of (bare_pieces symbols)) ≡ (token ++ map symbol_of symbols) ∷ []
+    → token_groups (Some token) (flat_map lexemes_of (bare_pieces symbols)) ≡ (token ++ map symbol_of symbols) ∷ []
 grouped-bare token [] = ap (λ (t : List Symbol). t ∷ []) (sym (append-nil token))
 grouped-bare token (symbol ∷ symbols) =
     grouped-bare (token ++ symbol_of symbol ∷ []) symbols
@@ -44,7 +44,7 @@ tokens_of-bare symbol symbols = grouped-bare (symbol_of symbol ∷ []) symbols
 
 -- symbols that stand bare, at least one, are wholly one token
 pub token_text-bare : (symbol : Written) (symbols : List Written) → AreBare (symbol ∷ symbols)
-    → IsTokenText (flat_map written (symbol ∷ symbols)) (map symbol_of (symbol ∷ symbols))
+    → IsTokenText (flat_map octet_text (symbol ∷ symbols)) (map symbol_of (symbol ∷ symbols))
 token_text-bare symbol symbols h =
     (bare_pieces (symbol ∷ symbols), AreParts-bare (symbol ∷ symbols) h, sym (spelled-bare (symbol ∷ symbols)), tokens_of-bare symbol symbols)
 
@@ -92,7 +92,7 @@ abbrev pub written_as : (ℕ → Bool) → List ℕ → List Written
 written_as special octets = map (printed_as special) octets
 
 pub written-printed : (special : ℕ → Bool) (octets : List ℕ)
-    → flat_map written (written_as special octets) ≡ flat_map (printed_octet special) octets
+    → flat_map octet_text (written_as special octets) ≡ flat_map (printed_octet special) octets
 written-printed special [] = refl
 written-printed special (c ∷ octets) = ap (λ (t : List ℕ). printed_octet special c ++ t) (written-printed special octets)
 

@@ -12,7 +12,7 @@ use Rattle.text_spec.specs.declared.lexeme.Symbol.{Symbol}
 use Rattle.text_spec.specs.declared.lexeme.Lexeme.{Lexeme}
 use Rattle.text_spec.specs.declared.lexeme.Lexeme.TheVariants.{Octet, Quote, Gap}
 use Rattle.text_spec.specs.Pieces as pieces
-use Rattle.text_spec.specs.Pieces.{Piece, Blank, LineEnd, Opening, Closing, Bare, Quoted, spelled, symbol_of, is_blank, IsEntry, IsRow, lexemes_of, grouped, tokens_of, HasTokens, AreParts, IsTokenText}
+use Rattle.text_spec.specs.Pieces.{Piece, Blank, LineEnd, Opening, Closing, Bare, Quoted, piece_octets, symbol_of, is_blank, IsEntry, IsPieceRow, lexemes_of, token_groups, tokens_of, HasTokens, AreParts, IsTokenText}
 use Rattle.text_spec.specs.Layouts.{Item, Token, Comment, BlockBegin, BlockEnd, Layout, empty_layout, separator, item_text, blocks_after, layout_step, layout_from, depth_after, IsOneLine, HasOneLineComments, AreTokenTexts}
 use Rattle.text_spec.specs.Laws.{LayoutSplits}
 
@@ -57,7 +57,7 @@ abbrev held_behind_all : Option (List Symbol) → List Lexeme → Option (List S
 held_behind_all held [] = held
 held_behind_all held (lexeme ∷ lexemes) = held_behind_all (held_behind held lexeme) lexemes
 
-grouped-solid : (held : Option (List Symbol)) (lexemes more : List Lexeme) → IsSolid lexemes → grouped held (lexemes ++ more) ≡ grouped (held_behind_all held lexemes) more
+grouped-solid : (held : Option (List Symbol)) (lexemes more : List Lexeme) → IsSolid lexemes → token_groups held (lexemes ++ more) ≡ token_groups (held_behind_all held lexemes) more
 grouped-solid held [] more h = refl
 grouped-solid held (Gap ∷ lexemes) more h = absurd h
 grouped-solid None (Quote ∷ lexemes) more h = grouped-solid (Some []) lexemes more h
@@ -66,15 +66,15 @@ grouped-solid None (Octet symbol ∷ lexemes) more h = grouped-solid (Some (symb
 grouped-solid (Some token) (Octet symbol ∷ lexemes) more h = grouped-solid (Some (token ++ symbol ∷ [])) lexemes more h
 
 -- what is held gives this token alone
-held_is : (held : Option (List Symbol)) (token : List Symbol) → grouped held [] ≡ token ∷ [] → held ≡ Some token
+held_is : (held : Option (List Symbol)) (token : List Symbol) → token_groups held [] ≡ token ∷ [] → held ≡ Some token
 held_is None token h = absurd cc
 held_is (Some held) token h = ap Some (let e : held ≡ token = cc in e)
 
 -- the lexemes of one token, and more
-grouped-token : (lexemes more : List Lexeme) (token : List Symbol) → IsSolid lexemes → grouped None lexemes ≡ token ∷ [] → grouped None (lexemes ++ more) ≡ grouped (Some token) more
+grouped-token : (lexemes more : List Lexeme) (token : List Symbol) → IsSolid lexemes → token_groups None lexemes ≡ token ∷ [] → token_groups None (lexemes ++ more) ≡ token_groups (Some token) more
 grouped-token lexemes more token h e =
-    let alone : grouped (held_behind_all None lexemes) [] ≡ token ∷ [] = sym (grouped-solid None lexemes [] h) ∙ ap (grouped None) (append-nil lexemes) ∙ e in
-    grouped-solid None lexemes more h ∙ ap (λ (held : Option (List Symbol)). grouped held more) (held_is (held_behind_all None lexemes) token alone)
+    let alone : token_groups (held_behind_all None lexemes) [] ≡ token ∷ [] = sym (grouped-solid None lexemes [] h) ∙ ap (token_groups None) (append-nil lexemes) ∙ e in
+    grouped-solid None lexemes more h ∙ ap (λ (held : Option (List Symbol)). token_groups held more) (held_is (held_behind_all None lexemes) token alone)
 
 -- parts of tokens in front of an entry
 IsEntry-parts : (parts more : List Piece) (depth : ℕ) → AreParts parts → IsEntry depth more → IsEntry depth (parts ++ more)
@@ -94,7 +94,7 @@ abbrev held_tokens : Option (List Symbol) → List (List Symbol)
 held_tokens None = []
 held_tokens (Some token) = token ∷ []
 
-grouped-gap : (held : Option (List Symbol)) (lexemes : List Lexeme) → grouped held (Gap ∷ lexemes) ≡ held_tokens held ++ grouped None lexemes
+grouped-gap : (held : Option (List Symbol)) (lexemes : List Lexeme) → token_groups held (Gap ∷ lexemes) ≡ held_tokens held ++ token_groups None lexemes
 grouped-gap None lexemes = refl
 grouped-gap (Some token) lexemes = refl
 
@@ -107,7 +107,7 @@ SetsApart (c ∷ d ∷ text) held = ⊥
 abbrev blanks : List ℕ → List Piece
 blanks text = map Blank text
 
-spelled-blanks : (text : List ℕ) → flat_map spelled (blanks text) ≡ text
+spelled-blanks : (text : List ℕ) → flat_map piece_octets (blanks text) ≡ text
 spelled-blanks [] = refl
 spelled-blanks (c ∷ text) = ap (λ (t : List ℕ). c ∷ t) (spelled-blanks text)
 
@@ -117,8 +117,8 @@ IsEntry-blanks (c ∷ []) held more depth h k = (h, k)
 IsEntry-blanks (c ∷ d ∷ text) held more depth h k = absurd h
 
 grouped-blanks : (text : List ℕ) (held : Option (List Symbol)) (lexemes : List Lexeme) → SetsApart text held
-    → grouped held (flat_map lexemes_of (blanks text) ++ lexemes) ≡ held_tokens held ++ grouped None lexemes
-grouped-blanks [] held lexemes h = ap (λ (t : Option (List Symbol)). grouped t lexemes) h ∙ sym (ap (λ (t : Option (List Symbol)). held_tokens t ++ grouped None lexemes) h)
+    → token_groups held (flat_map lexemes_of (blanks text) ++ lexemes) ≡ held_tokens held ++ token_groups None lexemes
+grouped-blanks [] held lexemes h = ap (λ (t : Option (List Symbol)). token_groups t lexemes) h ∙ sym (ap (λ (t : Option (List Symbol)). held_tokens t ++ token_groups None lexemes) h)
 grouped-blanks (c ∷ []) held lexemes h = grouped-gap held lexemes
 grouped-blanks (c ∷ d ∷ text) held lexemes h = absurd h
 
@@ -155,17 +155,17 @@ depth_of Multiline blocks = blocks
 -- the pieces of an item, what is held behind it, and the tokens of what follows
 record Front (kind : DisplayKind) (item : Item) (layout : Layout) (held : Option (List Symbol)) (tokens : List (List Symbol)) (after : Option (List Symbol)) (more_tokens : List (List Symbol)) : Type 0 where
   front : List Piece
-  text : item_text kind item layout ≡ flat_map spelled front
+  text : item_text kind item layout ≡ flat_map piece_octets front
   row : (more : List Piece) → IsEntry (depth_of kind (blocks_after item layout.blocks)) more → IsEntry (depth_of kind layout.blocks) (front ++ more)
-  lexemes : (more : List Lexeme) → grouped after more ≡ held_tokens after ++ more_tokens → grouped held (flat_map lexemes_of front ++ more) ≡ held_tokens held ++ tokens
+  lexemes : (more : List Lexeme) → token_groups after more ≡ held_tokens after ++ more_tokens → token_groups held (flat_map lexemes_of front ++ more) ≡ held_tokens held ++ tokens
   apart : SetsApart (separator kind (layout_step kind item layout)) after
 
 -- the pieces of items
 record Splits (kind : DisplayKind) (items : List Item) (layout : Layout) (held : Option (List Symbol)) (tokens : List (List Symbol)) : Type 0 where
   row : List Piece
   entry : IsEntry (depth_of kind layout.blocks) row
-  text : (layout_from kind items layout).text ≡ layout.text ++ flat_map spelled row
-  lexemes : grouped held (flat_map lexemes_of row) ≡ held_tokens held ++ tokens
+  text : (layout_from kind items layout).text ≡ layout.text ++ flat_map piece_octets row
+  lexemes : token_groups held (flat_map lexemes_of row) ≡ held_tokens held ++ tokens
 
 joined : (kind : DisplayKind) (item : Item) (items : List Item) (layout : Layout) (held after : Option (List Symbol)) (tokens more_tokens : List (List Symbol))
     → Front kind item layout held tokens after more_tokens
@@ -173,10 +173,10 @@ joined : (kind : DisplayKind) (item : Item) (items : List Item) (layout : Layout
 joined kind item items layout held after tokens more_tokens f s = record {
   row = f.front ++ s.row;
   entry = f.row s.row s.entry;
-  text = s.text ∙ ap (λ (t : List ℕ). layout.text ++ t ++ flat_map spelled s.row) f.text
-      ∙ append_assoc layout.text (flat_map spelled f.front) (flat_map spelled s.row)
-      ∙ sym (ap (λ (t : List ℕ). layout.text ++ t) (flat_map-append spelled f.front s.row));
-  lexemes = ap (grouped held) (flat_map-append lexemes_of f.front s.row) ∙ f.lexemes (flat_map lexemes_of s.row) s.lexemes;
+  text = s.text ∙ ap (λ (t : List ℕ). layout.text ++ t ++ flat_map piece_octets s.row) f.text
+      ∙ append_assoc layout.text (flat_map piece_octets f.front) (flat_map piece_octets s.row)
+      ∙ sym (ap (λ (t : List ℕ). layout.text ++ t) (flat_map-append piece_octets f.front s.row));
+  lexemes = ap (token_groups held) (flat_map-append lexemes_of f.front s.row) ∙ f.lexemes (flat_map lexemes_of s.row) s.lexemes;
 }
 
 -- an item that writes nothing
@@ -222,10 +222,10 @@ front-token kind c text layout held token tokens is apart =
     let some : (length (layout.text ++ item_text kind (Token (c ∷ text)) layout) == 0) ≡ false = ap (λ (t : List ℕ). length (layout.text ++ t) == 0) written ∙ not_empty-append layout.text (separated ++ (c ∷ text)) (not_empty-append separated (c ∷ text) (not_empty c text)) in
     record {
       front = blanks separated ++ parts;
-      text = written ∙ ap (λ (t : List ℕ). separated ++ t) is.2 ∙ ap (λ (t : List ℕ). t ++ flat_map spelled parts) (sym (spelled-blanks separated)) ∙ sym (flat_map-append spelled (blanks separated) parts);
+      text = written ∙ ap (λ (t : List ℕ). separated ++ t) is.2 ∙ ap (λ (t : List ℕ). t ++ flat_map piece_octets parts) (sym (spelled-blanks separated)) ∙ sym (flat_map-append piece_octets (blanks separated) parts);
       row = λ more h. subst (λ (r : List Piece). IsEntry (depth_of kind layout.blocks) r) (sym (append_assoc (blanks separated) parts more)) (IsEntry-blanks separated held (parts ++ more) (depth_of kind layout.blocks) apart (IsEntry-parts parts more (depth_of kind layout.blocks) is.1 h));
-      lexemes = λ more h. ap (λ (l : List Lexeme). grouped held (l ++ more)) (flat_map-append lexemes_of (blanks separated) parts)
-          ∙ ap (grouped held) (append_assoc (flat_map lexemes_of (blanks separated)) (flat_map lexemes_of parts) more)
+      lexemes = λ more h. ap (λ (l : List Lexeme). token_groups held (l ++ more)) (flat_map-append lexemes_of (blanks separated) parts)
+          ∙ ap (token_groups held) (append_assoc (flat_map lexemes_of (blanks separated)) (flat_map lexemes_of parts) more)
           ∙ grouped-blanks separated held (flat_map lexemes_of parts ++ more) apart
           ∙ ap (λ (l : List (List Symbol)). held_tokens held ++ l) (grouped-token (flat_map lexemes_of parts) more token (IsSolid-parts parts is.1) is.3 ∙ h);
       apart = apart-behind kind (layout_step kind (Token (c ∷ text)) layout) (Some token) some comment;
@@ -233,7 +233,7 @@ front-token kind c text layout held token tokens is apart =
 
 -- a bracket
 front-bracket : (item : Item) (bracket : Piece) (layout : Layout) (held : Option (List Symbol)) (tokens : List (List Symbol))
-    → item_text Multiline item layout ≡ separator Multiline layout ++ flat_map spelled (bracket ∷ [])
+    → item_text Multiline item layout ≡ separator Multiline layout ++ flat_map piece_octets (bracket ∷ [])
     → lexemes_of bracket ≡ Gap ∷ []
     → ((more : List Piece) → IsEntry (blocks_after item layout.blocks) more → IsEntry layout.blocks (bracket ∷ more))
     → SetsApart (separator Multiline layout) held
@@ -242,12 +242,12 @@ front-bracket item bracket layout held tokens written gap row apart =
     let separated : List ℕ = separator Multiline layout in
     record {
       front = blanks separated ++ bracket ∷ [];
-      text = written ∙ ap (λ (t : List ℕ). t ++ flat_map spelled (bracket ∷ [])) (sym (spelled-blanks separated)) ∙ sym (flat_map-append spelled (blanks separated) (bracket ∷ []));
+      text = written ∙ ap (λ (t : List ℕ). t ++ flat_map piece_octets (bracket ∷ [])) (sym (spelled-blanks separated)) ∙ sym (flat_map-append piece_octets (blanks separated) (bracket ∷ []));
       row = λ more h. subst (λ (r : List Piece). IsEntry layout.blocks r) (sym (append_assoc (blanks separated) (bracket ∷ []) more)) (IsEntry-blanks separated held (bracket ∷ more) layout.blocks apart (row more h));
-      lexemes = λ more h. ap (λ (l : List Lexeme). grouped held (l ++ more)) (flat_map-append lexemes_of (blanks separated) (bracket ∷ []))
-          ∙ ap (grouped held) (append_assoc (flat_map lexemes_of (blanks separated)) (flat_map lexemes_of (bracket ∷ [])) more)
+      lexemes = λ more h. ap (λ (l : List Lexeme). token_groups held (l ++ more)) (flat_map-append lexemes_of (blanks separated) (bracket ∷ []))
+          ∙ ap (token_groups held) (append_assoc (flat_map lexemes_of (blanks separated)) (flat_map lexemes_of (bracket ∷ [])) more)
           ∙ grouped-blanks separated held (flat_map lexemes_of (bracket ∷ []) ++ more) apart
-          ∙ ap (λ (l : List (List Symbol)). held_tokens held ++ l) (ap (λ (l : List Lexeme). grouped None (l ++ [] ++ more)) gap ∙ h);
+          ∙ ap (λ (l : List (List Symbol)). held_tokens held ++ l) (ap (λ (l : List Lexeme). token_groups None (l ++ [] ++ more)) gap ∙ h);
       apart = apart-none Multiline (layout_step Multiline item layout);
     }
 
@@ -295,10 +295,10 @@ front-comment-shown text layout held tokens shown line apart =
     let within : 0 < layout.blocks = grind (arith, nat_tests, shown) in
     record {
       front = blanks before ++ comment;
-      text = ap (λ (b : Bool). if b then before ++ (59 ∷ 32 ∷ text ++ 10 ∷ 9 ∷ []) else []) shown ∙ ap (λ (t : List ℕ). t ++ (59 ∷ 32 ∷ text ++ 10 ∷ 9 ∷ [])) (sym (spelled-blanks before)) ∙ sym (flat_map-append spelled (blanks before) comment);
+      text = ap (λ (b : Bool). if b then before ++ (59 ∷ 32 ∷ text ++ 10 ∷ 9 ∷ []) else []) shown ∙ ap (λ (t : List ℕ). t ++ (59 ∷ 32 ∷ text ++ 10 ∷ 9 ∷ [])) (sym (spelled-blanks before)) ∙ sym (flat_map-append piece_octets (blanks before) comment);
       row = λ more h. subst (λ (r : List Piece). IsEntry layout.blocks r) (sym (append_assoc (blanks before) comment more)) (IsEntry-blanks before held (comment ++ more) layout.blocks apart' (comment-row layout.blocks text more within line h));
-      lexemes = λ more h. ap (λ (l : List Lexeme). grouped held (l ++ more)) (flat_map-append lexemes_of (blanks before) comment)
-          ∙ ap (grouped held) (append_assoc (flat_map lexemes_of (blanks before)) (flat_map lexemes_of comment) more)
+      lexemes = λ more h. ap (λ (l : List Lexeme). token_groups held (l ++ more)) (flat_map-append lexemes_of (blanks before) comment)
+          ∙ ap (token_groups held) (append_assoc (flat_map lexemes_of (blanks before)) (flat_map lexemes_of comment) more)
           ∙ grouped-blanks before held (flat_map lexemes_of comment ++ more) apart'
           ∙ ap (λ (l : List (List Symbol)). held_tokens held ++ l) h;
       apart = apart-none Multiline (layout_step Multiline (Comment text) layout);
@@ -333,7 +333,7 @@ closed Simple blocks h = refl
 closed Tabbed blocks h = refl
 closed Multiline blocks h = cc
 
-ends-held : (held : Option (List Symbol)) → grouped held [] ≡ held_tokens held ++ []
+ends-held : (held : Option (List Symbol)) → token_groups held [] ≡ held_tokens held ++ []
 ends-held None = refl
 ends-held (Some token) = refl
 

@@ -6,15 +6,15 @@ use Rattle.std.proofs.lemmas.List.{drop_at}
 use Rattle.std.proofs.lemmas.List.Sums.{take_while-cons}
 use Rattle.std.specs.Option.{option_map_or}
 use Rattle.std.specs.List.{flat_map, take_while, AllByRecursion}
-use Rattle.name_spec.specs.Printed.{Written, Plain, Escaped, Decimal, written}
+use Rattle.name_spec.specs.Printed.{Written, Plain, Escaped, Decimal, octet_text}
 use Rattle.text_spec.specs.declared.errors.ScanError.{ScanError}
 use Rattle.text_spec.specs.declared.errors.ScanError.TheVariants.{BadEscape, BadBracket}
 use Rattle.text_spec.specs.declared.lexeme.Lexeme.{Lexeme}
 use Rattle.text_spec.specs.declared.lexeme.Lexeme.TheVariants.{Octet, Quote, Gap}
 use Rattle.text_spec.specs.declared.lexeme.Place.{Place}
 use Rattle.text_spec.specs.declared.lexeme.Front.{Front}
-use Rattle.text_spec.specs.Lexing.{reads, line_len, escape_of, symbol_step, quoted_step, open_step, ended_step, step, with_front, lexemes_at}
-use Rattle.text_spec.specs.Pieces.{is_blank, is_bare, is_quotable, is_escapable, symbol_of, lexemes_of, spelled, Quoted, IsSymbol, IsComment}
+use Rattle.text_spec.specs.Lexing.{front_of, line_len, escape_of, symbol_step, quoted_step, open_step, ended_step, step, with_front, lexemes_at}
+use Rattle.text_spec.specs.Pieces.{is_blank, is_bare, is_quotable, is_escapable, symbol_of, lexemes_of, piece_octets, Quoted, IsSymbol, IsComment}
 use Rattle.text_spec.proofs.Escapes.{decimal_digits, escape_of-escaped, escape_of-decimal}
 use Rattle.text_spec.proofs.Skips.{lexemes_at-refused, lexemes_at-reads}
 
@@ -68,33 +68,33 @@ abbrev escaped_octet : ℕ → Lexeme
 escaped_octet c = Octet (record { octet = c; escaped = true })
 
 escape-step : (place : Place) (rest : List ℕ) (octet len : ℕ) → escape_of rest ≡ Some (octet, len)
-    → symbol_step place 92 rest ≡ reads (escaped_octet octet) place len
-escape-step place rest octet len is = ap (λ o. option_map_or (λ e. reads (escaped_octet e.0) place e.1) o (Err BadEscape)) is
+    → symbol_step place 92 rest ≡ front_of (escaped_octet octet) place len
+escape-step place rest octet len is = ap (λ o. option_map_or (λ e. front_of (escaped_octet e.0) place e.1) o (Err BadEscape)) is
 
-escaped-step : (place : Place) (c : ℕ) (rest : List ℕ) → is_escapable c ≡ true → symbol_step place 92 (c ∷ rest) ≡ reads (escaped_octet c) place 1
+escaped-step : (place : Place) (c : ℕ) (rest : List ℕ) → is_escapable c ≡ true → symbol_step place 92 (c ∷ rest) ≡ front_of (escaped_octet c) place 1
 escaped-step place c rest escapable = escape-step place (c ∷ rest) c 1 (escape_of-escaped c rest escapable)
 
-decimal-step : (place : Place) (c : ℕ) (rest : List ℕ) → c < 256 → symbol_step place 92 (decimal_digits c ++ rest) ≡ reads (escaped_octet c) place 3
+decimal-step : (place : Place) (c : ℕ) (rest : List ℕ) → c < 256 → symbol_step place 92 (decimal_digits c ++ rest) ≡ front_of (escaped_octet c) place 3
 decimal-step place c rest octet = escape-step place (decimal_digits c ++ rest) c 3 (escape_of-decimal c rest octet)
 
 bare-step : (place : Place) (c : ℕ) (rest : List ℕ) → is_bare c ≡ true
-    → open_step place c rest ≡ reads (Octet (record { octet = c; escaped = false })) place 0
+    → open_step place c rest ≡ front_of (Octet (record { octet = c; escaped = false })) place 0
 bare-step place c rest bare = grind (arith, nat_tests)
 
 quotable-step : (place : Place) (c : ℕ) (rest : List ℕ) → is_quotable c ≡ true
-    → quoted_step place c rest ≡ reads (Octet (record { octet = c; escaped = false })) place 0
+    → quoted_step place c rest ≡ front_of (Octet (record { octet = c; escaped = false })) place 0
 quotable-step place c rest quotable = grind (arith, nat_tests)
 
 -- a symbol outside quotes
 pub bare-read : (depth : ℕ) (symbol : Written) (rest : List ℕ) → IsSymbol is_bare symbol
-    → lexemes_at (in_entry depth) 0 (written symbol ++ rest) ≡ with_front (Octet (symbol_of symbol)) (lexemes_at (in_entry depth) 0 rest)
+    → lexemes_at (in_entry depth) 0 (octet_text symbol ++ rest) ≡ with_front (Octet (symbol_of symbol)) (lexemes_at (in_entry depth) 0 rest)
 bare-read depth (Plain c) rest bare = entry-reads depth c rest _ (bare-step (in_entry depth) c rest bare)
 bare-read depth (Escaped c) rest escapable = entry-reads depth 92 (c ∷ rest) _ (escaped-step (in_entry depth) c rest escapable)
 bare-read depth (Decimal c) rest octet = entry-reads depth 92 (decimal_digits c ++ rest) _ (decimal-step (in_entry depth) c rest octet)
 
 -- a symbol in a quoted string
 pub quotable-read : (depth : ℕ) (symbol : Written) (rest : List ℕ) → IsSymbol is_quotable symbol
-    → lexemes_at (in_string depth) 0 (written symbol ++ rest) ≡ with_front (Octet (symbol_of symbol)) (lexemes_at (in_string depth) 0 rest)
+    → lexemes_at (in_string depth) 0 (octet_text symbol ++ rest) ≡ with_front (Octet (symbol_of symbol)) (lexemes_at (in_string depth) 0 rest)
 quotable-read depth (Plain c) rest quotable = string-reads depth c rest _ (quotable-step (in_string depth) c rest quotable)
 quotable-read depth (Escaped c) rest escapable = string-reads depth 92 (c ∷ rest) _ (escaped-step (in_string depth) c rest escapable)
 quotable-read depth (Decimal c) rest octet = string-reads depth 92 (decimal_digits c ++ rest) _ (decimal-step (in_string depth) c rest octet)
@@ -139,20 +139,20 @@ quote-ends : (depth : ℕ) (rest : List ℕ) → lexemes_at (in_string depth) 0 
 quote-ends depth rest = string-reads depth 34 rest _ refl
 
 pub symbols-read : (depth : ℕ) (symbols : List Written) (rest : List ℕ) → AllByRecursion (IsSymbol is_quotable) symbols
-    → lexemes_at (in_string depth) 0 (flat_map written symbols ++ rest) ≡ with_lexemes (lexemes_of_symbols symbols) (lexemes_at (in_string depth) 0 rest)
+    → lexemes_at (in_string depth) 0 (flat_map octet_text symbols ++ rest) ≡ with_lexemes (lexemes_of_symbols symbols) (lexemes_at (in_string depth) 0 rest)
 symbols-read depth [] rest quotable = sym (with_lexemes-nil (lexemes_at (in_string depth) 0 rest))
 symbols-read depth (symbol ∷ symbols) rest quotable =
-    ap (lexemes_at (in_string depth) 0) (append_assoc (written symbol) (flat_map written symbols) rest)
-    ∙ quotable-read depth symbol (flat_map written symbols ++ rest) quotable.0
+    ap (lexemes_at (in_string depth) 0) (append_assoc (octet_text symbol) (flat_map octet_text symbols) rest)
+    ∙ quotable-read depth symbol (flat_map octet_text symbols ++ rest) quotable.0
     ∙ ap (with_front (Octet (symbol_of symbol))) (symbols-read depth symbols rest quotable.1)
     ∙ sym (with_lexemes-cons (Octet (symbol_of symbol)) (lexemes_of_symbols symbols) (lexemes_at (in_string depth) 0 rest))
 
 pub string-read : (depth : ℕ) (symbols : List Written) (rest : List ℕ) → AllByRecursion (IsSymbol is_quotable) symbols
-    → lexemes_at (in_entry depth) 0 (spelled (Quoted symbols) ++ rest) ≡ with_lexemes (lexemes_of (Quoted symbols)) (lexemes_at (in_entry depth) 0 rest)
+    → lexemes_at (in_entry depth) 0 (piece_octets (Quoted symbols) ++ rest) ≡ with_lexemes (lexemes_of (Quoted symbols)) (lexemes_at (in_entry depth) 0 rest)
 string-read depth symbols rest quotable =
     let following = lexemes_at (in_entry depth) 0 rest in
-    ap (λ left. lexemes_at (in_entry depth) 0 (34 ∷ left)) (append_assoc (flat_map written symbols) (34 ∷ []) rest)
-    ∙ quote-begins depth (flat_map written symbols ++ 34 ∷ rest)
+    ap (λ left. lexemes_at (in_entry depth) 0 (34 ∷ left)) (append_assoc (flat_map octet_text symbols) (34 ∷ []) rest)
+    ∙ quote-begins depth (flat_map octet_text symbols ++ 34 ∷ rest)
     ∙ ap (with_front Quote) (symbols-read depth symbols (34 ∷ rest) quotable
     ∙ ap (with_lexemes (lexemes_of_symbols symbols)) (quote-ends depth rest ∙ sym (with_lexemes-cons Quote [] following ∙ ap (with_front Quote) (with_lexemes-nil following)))
     ∙ sym (with_lexemes-append (lexemes_of_symbols symbols) (Quote ∷ []) following))
@@ -160,14 +160,14 @@ string-read depth symbols rest quotable =
 
 -- ---- gaps
 
-blank-step : (place : Place) (c : ℕ) (rest : List ℕ) → is_blank c ≡ true → open_step place c rest ≡ reads Gap place 0
+blank-step : (place : Place) (c : ℕ) (rest : List ℕ) → is_blank c ≡ true → open_step place c rest ≡ front_of Gap place 0
 blank-step place c rest blank = grind (arith, nat_tests)
 
 pub blank-read : (depth c : ℕ) (rest : List ℕ) → is_blank c ≡ true
     → lexemes_at (in_entry depth) 0 (c ∷ rest) ≡ with_front Gap (lexemes_at (in_entry depth) 0 rest)
 blank-read depth c rest blank = entry-reads depth c rest _ (blank-step (in_entry depth) c rest blank)
 
-blank-step_behind : (place : Place) (c : ℕ) (rest : List ℕ) → is_blank c ≡ true → ended_step place c rest ≡ reads Gap place 0
+blank-step_behind : (place : Place) (c : ℕ) (rest : List ℕ) → is_blank c ≡ true → ended_step place c rest ≡ front_of Gap place 0
 blank-step_behind place c rest blank = grind (arith, nat_tests)
 
 pub blank-read_behind : (c : ℕ) (rest : List ℕ) → is_blank c ≡ true → lexemes_at behind 0 (c ∷ rest) ≡ with_front Gap (lexemes_at behind 0 rest)
@@ -185,19 +185,19 @@ pub line-read_within : (depth : ℕ) (rest : List ℕ)
     → lexemes_at (in_entry (suc depth)) 0 (10 ∷ rest) ≡ with_front Gap (lexemes_at (in_entry (suc depth)) 0 rest)
 line-read_within depth rest =
     entry-reads (suc depth) 10 rest (record { lexeme = Gap; place = in_entry (suc depth); len = 0 })
-    (ap (λ ended. reads Gap (record { depth = suc depth; quoted = false; ended = ended }) 0) (suc-is_zero depth))
+    (ap (λ ended. front_of Gap (record { depth = suc depth; quoted = false; ended = ended }) 0) (suc-is_zero depth))
 
 pub line-read_behind : (rest : List ℕ) → lexemes_at behind 0 (10 ∷ rest) ≡ with_front Gap (lexemes_at behind 0 rest)
 line-read_behind rest = behind-reads 10 rest _ refl
 
 pub opening-read : (depth : ℕ) (rest : List ℕ) → lexemes_at (in_entry depth) 0 (40 ∷ rest) ≡ with_front Gap (lexemes_at (in_entry (suc depth)) 0 rest)
 opening-read depth rest =
-    entry-reads depth 40 rest (record { lexeme = Gap; place = in_entry (suc depth); len = 0 }) (ap (λ n. reads Gap (in_entry n) 0) (add-one depth))
+    entry-reads depth 40 rest (record { lexeme = Gap; place = in_entry (suc depth); len = 0 }) (ap (λ n. front_of Gap (in_entry n) 0) (add-one depth))
 
-closing-step : (depth : ℕ) (rest : List ℕ) → open_step (in_entry (suc depth)) 41 rest ≡ reads Gap (in_entry depth) 0
+closing-step : (depth : ℕ) (rest : List ℕ) → open_step (in_entry (suc depth)) 41 rest ≡ front_of Gap (in_entry depth) 0
 closing-step depth rest =
-    ap (λ none. cond none (Err BadBracket) (reads Gap (in_entry (suc depth - 1)) 0)) (suc-is_zero depth)
-    ∙ ap (λ n. reads Gap (in_entry n) 0) (omega arith)
+    ap (λ none. cond none (Err BadBracket) (front_of Gap (in_entry (suc depth - 1)) 0)) (suc-is_zero depth)
+    ∙ ap (λ n. front_of Gap (in_entry n) 0) (omega arith)
 
 pub closing-read : (depth : ℕ) (rest : List ℕ) → lexemes_at (in_entry (suc depth)) 0 (41 ∷ rest) ≡ with_front Gap (lexemes_at (in_entry depth) 0 rest)
 closing-read depth rest = entry-reads (suc depth) 41 rest _ (closing-step depth rest)

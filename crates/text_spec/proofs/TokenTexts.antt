@@ -10,13 +10,13 @@ use Rattle.name_spec.specs.Printed.{Written}
 use Rattle.text_spec.specs.declared.lexeme.Lexeme.{Lexeme}
 use Rattle.text_spec.specs.declared.lexeme.Lexeme.TheVariants.{Octet, Quote, Gap}
 use Rattle.text_spec.specs.declared.lexeme.Symbol.{Symbol}
-use Rattle.text_spec.specs.Pieces.{is_blank, symbol_of, Piece, Blank, LineEnd, Comment, Opening, Closing, Bare, Quoted, spelled, IsRow, IsEntry, lexemes_of, grouped, tokens_of, HasTokens, AreParts, IsTokenText}
+use Rattle.text_spec.specs.Pieces.{is_blank, symbol_of, Piece, Blank, LineEnd, Comment, Opening, Closing, Bare, Quoted, piece_octets, IsPieceRow, IsEntry, lexemes_of, token_groups, tokens_of, HasTokens, AreParts, IsTokenText}
 
 -- ---- rows of pieces
 
 -- parts of tokens may stand in front of any row
 pub IsRow-parts : (within : ℕ → Type 0) (ended : Type 0) (rest : List ℕ) (depth : ℕ) (parts pieces : List Piece) → AreParts parts
-    → IsRow within ended rest depth pieces → IsRow within ended rest depth (parts ++ pieces)
+    → IsPieceRow within ended rest depth pieces → IsPieceRow within ended rest depth (parts ++ pieces)
 IsRow-parts within ended rest depth [] pieces are row = row
 IsRow-parts within ended rest depth (Bare symbol ∷ parts) pieces are row = (are.0, IsRow-parts within ended rest depth parts pieces are.1 row)
 IsRow-parts within ended rest depth (Quoted symbols ∷ parts) pieces are row = (are.0, IsRow-parts within ended rest depth parts pieces are.1 row)
@@ -59,7 +59,7 @@ AreOfToken-parts (Quoted symbols ∷ parts) are =
 AreOfToken-parts (piece ∷ parts) are = absurd are
 
 grouped-front : (token : Option (List Symbol)) (front lexemes : List Lexeme) → AreOfToken front
-    → grouped token (front ++ lexemes) ≡ grouped (open_behind token front) lexemes
+    → token_groups token (front ++ lexemes) ≡ token_groups (open_behind token front) lexemes
 grouped-front token [] lexemes are = refl
 grouped-front token (Gap ∷ front) lexemes are = absurd are
 grouped-front None (Quote ∷ front) lexemes are = grouped-front (Some []) front lexemes are
@@ -69,29 +69,29 @@ grouped-front (Some token) (Octet symbol ∷ front) lexemes are = grouped-front 
 
 -- parts of tokens end no token
 pub grouped-parts : (token : Option (List Symbol)) (parts pieces : List Piece) → AreParts parts
-    → grouped token (flat_map lexemes_of (parts ++ pieces)) ≡ grouped (open_behind token (flat_map lexemes_of parts)) (flat_map lexemes_of pieces)
+    → token_groups token (flat_map lexemes_of (parts ++ pieces)) ≡ token_groups (open_behind token (flat_map lexemes_of parts)) (flat_map lexemes_of pieces)
 grouped-parts token parts pieces are =
-    ap (grouped token) (flat_map-append lexemes_of parts pieces)
+    ap (token_groups token) (flat_map-append lexemes_of parts pieces)
     ∙ grouped-front token (flat_map lexemes_of parts) (flat_map lexemes_of pieces) (AreOfToken-parts parts are)
 
-open_is : (token : List Symbol) (open_token : Option (List Symbol)) → grouped open_token [] ≡ token ∷ [] → open_token ≡ Some token
+open_is : (token : List Symbol) (open_token : Option (List Symbol)) → token_groups open_token [] ≡ token ∷ [] → open_token ≡ Some token
 open_is token None is = absurd cc
 open_is token (Some other) is = cc
 
 -- parts that are one token leave that token open
 pub grouped-token : (parts pieces : List Piece) (token : List Symbol) → AreParts parts → tokens_of parts ≡ token ∷ []
-    → tokens_of (parts ++ pieces) ≡ grouped (Some token) (flat_map lexemes_of pieces)
+    → tokens_of (parts ++ pieces) ≡ token_groups (Some token) (flat_map lexemes_of pieces)
 grouped-token parts pieces token are is =
     let behind = open_behind None (flat_map lexemes_of parts) in
-    let alone : tokens_of parts ≡ grouped behind [] =
+    let alone : tokens_of parts ≡ token_groups behind [] =
     ap (λ row. tokens_of row) (sym (append-nil parts)) ∙ grouped-parts None parts [] are in
-    grouped-parts None parts pieces are ∙ ap (λ token'. grouped token' (flat_map lexemes_of pieces)) (open_is token behind (sym alone ∙ is))
+    grouped-parts None parts pieces are ∙ ap (λ token'. token_groups token' (flat_map lexemes_of pieces)) (open_is token behind (sym alone ∙ is))
 
 -- ---- texts
 
 -- the text is the rest of an entry within so many brackets, and has these tokens
 abbrev pub EntryText : ℕ → List ℕ → List (List Symbol) → Type 0
-EntryText depth text tokens = (pieces : List Piece) × IsEntry depth pieces × (text ≡ flat_map spelled pieces) × (tokens ≡ tokens_of pieces)
+EntryText depth text tokens = (pieces : List Piece) × IsEntry depth pieces × (text ≡ flat_map piece_octets pieces) × (tokens ≡ tokens_of pieces)
 
 -- no part of a token stands in front
 abbrev pub HasGapFirst : List Piece → Type 0
@@ -103,7 +103,7 @@ HasGapFirst (piece ∷ pieces) = Unit {0}
 -- the same, and a token that stands before it ends there
 abbrev pub GapText : ℕ → List ℕ → List (List Symbol) → Type 0
 GapText depth text tokens =
-    (pieces : List Piece) × HasGapFirst pieces × IsEntry depth pieces × (text ≡ flat_map spelled pieces) × (tokens ≡ tokens_of pieces)
+    (pieces : List Piece) × HasGapFirst pieces × IsEntry depth pieces × (text ≡ flat_map piece_octets pieces) × (tokens ≡ tokens_of pieces)
 
 pub entry_from_gap : (depth : ℕ) (text : List ℕ) (tokens : List (List Symbol)) → GapText depth text tokens → EntryText depth text tokens
 entry_from_gap depth text tokens (pieces, gap, row, is, are) = (pieces, row, is, are)
@@ -133,7 +133,7 @@ module _ (depth : ℕ) (text : List ℕ) (tokens : List (List Symbol)) where
 
 -- a token ends where no part of a token follows
 grouped-gap : (token : List Symbol) (pieces : List Piece) → HasGapFirst pieces
-    → grouped (Some token) (flat_map lexemes_of pieces) ≡ token ∷ tokens_of pieces
+    → token_groups (Some token) (flat_map lexemes_of pieces) ≡ token ∷ tokens_of pieces
 grouped-gap token [] gap = refl
 grouped-gap token (Bare symbol ∷ pieces) gap = absurd gap
 grouped-gap token (Quoted symbols ∷ pieces) gap = absurd gap
@@ -144,7 +144,7 @@ pub token_on : (depth : ℕ) (text : List ℕ) (tokens : List (List Symbol)) (to
 token_on depth text tokens token_text token (parts, are_parts, spells, is_token) (pieces, gap, row, is, are) = (
   parts ++ pieces,
   IsEntry-parts depth parts pieces are_parts row,
-  ap (λ front. front ++ text) spells ∙ ap (λ left. flat_map spelled parts ++ left) is ∙ sym (flat_map-append spelled parts pieces),
+  ap (λ front. front ++ text) spells ∙ ap (λ left. flat_map piece_octets parts ++ left) is ∙ sym (flat_map-append piece_octets parts pieces),
   ap (λ more. token ∷ more) are ∙ sym (grouped-token parts pieces token are_parts is_token ∙ grouped-gap token pieces gap),
 )
 
@@ -153,6 +153,6 @@ pub has_token : (text : List ℕ) (token : List Symbol) → IsTokenText text tok
 has_token text token (parts, are_parts, spells, is_token) = (
   parts ++ [],
   IsEntry-parts 0 parts [] are_parts refl,
-  spells ∙ ap (flat_map spelled) (sym (append-nil parts)),
+  spells ∙ ap (flat_map piece_octets) (sym (append-nil parts)),
   sym is_token ∙ ap (λ row. tokens_of row) (sym (append-nil parts)),
 )

@@ -6,14 +6,14 @@ use Rattle.std.proofs.lemmas.Grind.{flat_map-append}
 use Rattle.text_spec.specs.declared.lexeme.Symbol.{Symbol}
 use Rattle.text_spec.specs.declared.lexeme.Lexeme.{Lexeme}
 use Rattle.text_spec.specs.declared.lexeme.Lexeme.TheVariants.{Octet, Quote, Gap}
-use Rattle.text_spec.specs.Pieces.{Piece, Blank, LineEnd, Comment, Opening, Closing, Bare, Quoted, spelled, lexemes_of, grouped, tokens_of, IsEntry, AreParts, IsTokenText, HasTokens}
+use Rattle.text_spec.specs.Pieces.{Piece, Blank, LineEnd, Comment, Opening, Closing, Bare, Quoted, piece_octets, lexemes_of, token_groups, tokens_of, IsEntry, AreParts, IsTokenText, HasTokens}
 use Rattle.text_spec.specs.Words.{Word, Text, OpeningBracket, ClosingBracket, words_text, AreWords}
 
 -- ---- parts of tokens in an entry
 
 -- a gap ends the token so far
 pub grouped-gap : (token : Option (List Symbol)) (front behind : List Lexeme)
-    → grouped token (front ++ Gap ∷ behind) ≡ grouped token front ++ grouped None behind
+    → token_groups token (front ++ Gap ∷ behind) ≡ token_groups token front ++ token_groups None behind
 grouped-gap None [] behind = refl
 grouped-gap (Some token) [] behind = refl
 grouped-gap None (Gap ∷ front) behind = grouped-gap None front behind
@@ -27,7 +27,7 @@ grouped-gap (Some token) (Octet symbol ∷ front) behind = grouped-gap (Some (to
 pub tokens_of-gap : (front : List Piece) (gap : Piece) (behind : List Piece) → lexemes_of gap ≡ Gap ∷ []
     → tokens_of (front ++ gap ∷ behind) ≡ tokens_of front ++ tokens_of behind
 tokens_of-gap front gap behind is =
-    ap (grouped None) (flat_map-append lexemes_of front (gap ∷ behind)
+    ap (token_groups None) (flat_map-append lexemes_of front (gap ∷ behind)
     ∙ ap (λ (ls : List Lexeme). flat_map lexemes_of front ++ (ls ++ flat_map lexemes_of behind)) is)
     ∙ grouped-gap None (flat_map lexemes_of front) (flat_map lexemes_of behind)
 
@@ -47,13 +47,13 @@ IsEntry-parts depth (Closing ∷ parts) pieces h e = absurd h
 -- the text is the rest of an entry, within so many brackets, with these tokens
 abbrev pub IsRestText : ℕ → List ℕ → List (List Symbol) → Type 0
 IsRestText depth text tokens =
-    (pieces : List Piece) × IsEntry depth pieces × (text ≡ flat_map spelled pieces) × (tokens ≡ tokens_of pieces)
+    (pieces : List Piece) × IsEntry depth pieces × (text ≡ flat_map piece_octets pieces) × (tokens ≡ tokens_of pieces)
 
 text_last : (depth : ℕ) (text : List ℕ) (token : List Symbol) → IsTokenText text token → depth ≡ 0 → IsRestText depth text (token ∷ [])
 text_last depth text token (parts, are, text_is, tokens_are) closed = (
   parts ++ [],
   IsEntry-parts depth parts [] are closed,
-  text_is ∙ ap (flat_map spelled) (sym (append-nil parts)),
+  text_is ∙ ap (flat_map piece_octets) (sym (append-nil parts)),
   sym (ap tokens_of (append-nil parts) ∙ tokens_are),
 )
 
@@ -62,7 +62,7 @@ text_before : (depth : ℕ) (text : List ℕ) (token : List Symbol) (rest : List
 text_before depth text token rest tokens (parts, are, text_is, tokens_are) (pieces, entry, rest_is, rest_tokens) = (
   parts ++ Blank 32 ∷ pieces,
   IsEntry-parts depth parts (Blank 32 ∷ pieces) are (refl, entry),
-  ap₂ (λ (t r : List ℕ). t ++ 32 ∷ r) text_is rest_is ∙ sym (flat_map-append spelled parts (Blank 32 ∷ pieces)),
+  ap₂ (λ (t r : List ℕ). t ++ 32 ∷ r) text_is rest_is ∙ sym (flat_map-append piece_octets parts (Blank 32 ∷ pieces)),
   sym (tokens_of-gap parts (Blank 32) pieces refl ∙ ap₂ (λ (a b : List (List Symbol)). a ++ b) tokens_are (sym rest_tokens)),
 )
 

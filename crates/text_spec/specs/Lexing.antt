@@ -41,41 +41,41 @@ abbrev pub in_quotes : Place → Bool → Place
 in_quotes place quoted = record place { quoted = quoted }
 
 -- a lexeme, the place behind it, and how many octets it has behind its first
-abbrev pub reads : Lexeme → Place → ℕ → Result Front ScanError
-reads lexeme place len = Ok (record { lexeme = lexeme; place = place; len = len })
+abbrev pub front_of : Lexeme → Place → ℕ → Result Front ScanError
+front_of lexeme place len = Ok (record { lexeme = lexeme; place = place; len = len })
 
 -- an octet or an escape of a token
 abbrev pub symbol_step : Place → ℕ → List ℕ → Result Front ScanError
 symbol_step place c rest =
     if c == 92
-    then option_map_or (λ e. reads (Octet (record { octet = e.0; escaped = true })) place e.1)
+    then option_map_or (λ e. front_of (Octet (record { octet = e.0; escaped = true })) place e.1)
     (escape_of rest) (Err BadEscape)
-    else reads (Octet (record { octet = c; escaped = false })) place 0
+    else front_of (Octet (record { octet = c; escaped = false })) place 0
 
 -- within quotes
 abbrev pub quoted_step : Place → ℕ → List ℕ → Result Front ScanError
 quoted_step place c rest =
-    if c == 34 then reads Quote (in_quotes place false) 0
+    if c == 34 then front_of Quote (in_quotes place false) 0
     else (if is_stray_in_quotes c then Err BadSymbol
     else symbol_step place c rest)
 
 -- behind the line's end that ends the entry
 abbrev pub ended_step : Place → ℕ → List ℕ → Result Front ScanError
 ended_step place c rest =
-    if is_blank c || (c == 10) then reads Gap place 0
-    else (if c == 59 then reads Gap place (line_len rest)
+    if is_blank c || (c == 10) then front_of Gap place 0
+    else (if c == 59 then front_of Gap place (line_len rest)
     else Err TrailingTokens)
 
 -- in the entry, outside quotes
 abbrev pub open_step : Place → ℕ → List ℕ → Result Front ScanError
 open_step place c rest =
-    if is_blank c then reads Gap place 0
-    else (if c == 10 then reads Gap (record place { ended = place.depth == 0 }) 0
-    else (if c == 59 then reads Gap place (line_len rest)
-    else (if c == 40 then reads Gap (with_depth place (place.depth + 1)) 0
+    if is_blank c then front_of Gap place 0
+    else (if c == 10 then front_of Gap (record place { ended = place.depth == 0 }) 0
+    else (if c == 59 then front_of Gap place (line_len rest)
+    else (if c == 40 then front_of Gap (with_depth place (place.depth + 1)) 0
     else (if c == 41 then
-    (if place.depth == 0 then Err BadBracket else reads Gap (with_depth place (place.depth - 1)) 0)
-    else (if c == 34 then reads Quote (in_quotes place true) 0
+    (if place.depth == 0 then Err BadBracket else front_of Gap (with_depth place (place.depth - 1)) 0)
+    else (if c == 34 then front_of Quote (in_quotes place true) 0
     else (if is_control c then Err BadSymbol
     else symbol_step place c rest))))))
 

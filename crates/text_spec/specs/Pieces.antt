@@ -3,7 +3,7 @@
 use Rattle.std.specs.Prelude.{◌≡◌, ◌⊎◌, ℕ, zero, suc, ◌<◌, Bool, true, false, ◌&&◌, ◌||◌, not, IsTrue, nat_le, nat_lt, ◌==◌, List, [], ◌∷◌, ◌++◌, map, Option, Some, None}
 use Rattle.std.specs.List.{flat_map, AllByRecursion}
 use Rattle.std.specs.Char.{is_ascii_digit}
-use Rattle.name_spec.specs.Printed.{Written, Plain, Escaped, Decimal, written}
+use Rattle.name_spec.specs.Printed.{Written, Plain, Escaped, Decimal, octet_text}
 use Rattle.text_spec.specs.declared.errors.ScanError.{ScanError}
 use Rattle.text_spec.specs.declared.errors.ScanError.TheVariants.{BadSymbol, BadEscape, OpenQuote, BadBracket, TrailingTokens}
 use Rattle.text_spec.specs.declared.lexeme.Symbol.{Symbol}
@@ -29,14 +29,14 @@ pub data Piece : Type 0 where
   Quoted : (symbols : List Written) → Piece
 
 -- the octets of a piece
-abbrev pub spelled : Piece → List ℕ
-spelled (Blank c) = c ∷ []
-spelled LineEnd = 10 ∷ []
-spelled (Comment text) = 59 ∷ text
-spelled Opening = 40 ∷ []
-spelled Closing = 41 ∷ []
-spelled (Bare symbol) = written symbol
-spelled (Quoted symbols) = 34 ∷ flat_map written symbols ++ 34 ∷ []
+abbrev pub piece_octets : Piece → List ℕ
+piece_octets (Blank c) = c ∷ []
+piece_octets LineEnd = 10 ∷ []
+piece_octets (Comment text) = 59 ∷ text
+piece_octets Opening = 40 ∷ []
+piece_octets Closing = 41 ∷ []
+piece_octets (Bare symbol) = octet_text symbol
+piece_octets (Quoted symbols) = 34 ∷ flat_map octet_text symbols ++ 34 ∷ []
 
 -- the symbol that is written so
 abbrev pub symbol_of : Written → Symbol
@@ -79,29 +79,29 @@ IsTailRow ended rest [] = ended
 IsTailRow ended rest (Blank c ∷ pieces) = IsTrue (is_blank c) × IsTailRow ended rest pieces
 IsTailRow ended rest (LineEnd ∷ pieces) = IsTailRow ended rest pieces
 IsTailRow ended rest (Comment text ∷ pieces) =
-    IsComment text (flat_map spelled pieces ++ rest) × IsTailRow ended rest pieces
+    IsComment text (flat_map piece_octets pieces ++ rest) × IsTailRow ended rest pieces
 IsTailRow ended rest (piece ∷ pieces) = ⊥
 
 -- These pieces may stand in a row, within so many brackets. At last holds what `within` says of the brackets that are
 -- open, or what `ended` says behind the entry's last line, and `rest` follows.
-abbrev pub IsRow : (ℕ → Type 0) → Type 0 → List ℕ → ℕ → List Piece → Type 0
-IsRow within ended rest depth [] = within depth
-IsRow within ended rest depth (Blank c ∷ pieces) = IsTrue (is_blank c) × IsRow within ended rest depth pieces
-IsRow within ended rest zero (LineEnd ∷ pieces) = IsTailRow ended rest pieces
-IsRow within ended rest (suc depth) (LineEnd ∷ pieces) = IsRow within ended rest (suc depth) pieces
-IsRow within ended rest depth (Comment text ∷ pieces) =
-    IsComment text (flat_map spelled pieces ++ rest) × IsRow within ended rest depth pieces
-IsRow within ended rest depth (Opening ∷ pieces) = IsRow within ended rest (suc depth) pieces
-IsRow within ended rest zero (Closing ∷ pieces) = ⊥
-IsRow within ended rest (suc depth) (Closing ∷ pieces) = IsRow within ended rest depth pieces
-IsRow within ended rest depth (Bare symbol ∷ pieces) =
-    IsSymbol is_bare symbol × IsRow within ended rest depth pieces
-IsRow within ended rest depth (Quoted symbols ∷ pieces) =
-    AllByRecursion (IsSymbol is_quotable) symbols × IsRow within ended rest depth pieces
+abbrev pub IsPieceRow : (ℕ → Type 0) → Type 0 → List ℕ → ℕ → List Piece → Type 0
+IsPieceRow within ended rest depth [] = within depth
+IsPieceRow within ended rest depth (Blank c ∷ pieces) = IsTrue (is_blank c) × IsPieceRow within ended rest depth pieces
+IsPieceRow within ended rest zero (LineEnd ∷ pieces) = IsTailRow ended rest pieces
+IsPieceRow within ended rest (suc depth) (LineEnd ∷ pieces) = IsPieceRow within ended rest (suc depth) pieces
+IsPieceRow within ended rest depth (Comment text ∷ pieces) =
+    IsComment text (flat_map piece_octets pieces ++ rest) × IsPieceRow within ended rest depth pieces
+IsPieceRow within ended rest depth (Opening ∷ pieces) = IsPieceRow within ended rest (suc depth) pieces
+IsPieceRow within ended rest zero (Closing ∷ pieces) = ⊥
+IsPieceRow within ended rest (suc depth) (Closing ∷ pieces) = IsPieceRow within ended rest depth pieces
+IsPieceRow within ended rest depth (Bare symbol ∷ pieces) =
+    IsSymbol is_bare symbol × IsPieceRow within ended rest depth pieces
+IsPieceRow within ended rest depth (Quoted symbols ∷ pieces) =
+    AllByRecursion (IsSymbol is_quotable) symbols × IsPieceRow within ended rest depth pieces
 
 -- these pieces are the rest of an entry within so many brackets: all are closed, and nothing follows
 abbrev pub IsEntry : ℕ → List Piece → Type 0
-IsEntry depth pieces = IsRow (λ d. d ≡ 0) (Unit {0}) [] depth pieces
+IsEntry depth pieces = IsPieceRow (λ d. d ≡ 0) (Unit {0}) [] depth pieces
 
 -- what a piece is, seen from the tokens
 abbrev pub lexemes_of : Piece → List Lexeme
@@ -111,24 +111,24 @@ lexemes_of piece = Gap ∷ []
 
 -- A token is a longest row of adjoining bare symbols and quoted strings. Here `None` or the symbols of a token so far
 -- stand in front.
-abbrev pub grouped : Option (List Symbol) → List Lexeme → List (List Symbol)
-grouped None [] = []
-grouped (Some token) [] = token ∷ []
-grouped None (Gap ∷ lexemes) = grouped None lexemes
-grouped (Some token) (Gap ∷ lexemes) = token ∷ grouped None lexemes
-grouped None (Quote ∷ lexemes) = grouped (Some []) lexemes
-grouped (Some token) (Quote ∷ lexemes) = grouped (Some token) lexemes
-grouped None (Octet symbol ∷ lexemes) = grouped (Some (symbol ∷ [])) lexemes
-grouped (Some token) (Octet symbol ∷ lexemes) = grouped (Some (token ++ symbol ∷ [])) lexemes
+abbrev pub token_groups : Option (List Symbol) → List Lexeme → List (List Symbol)
+token_groups None [] = []
+token_groups (Some token) [] = token ∷ []
+token_groups None (Gap ∷ lexemes) = token_groups None lexemes
+token_groups (Some token) (Gap ∷ lexemes) = token ∷ token_groups None lexemes
+token_groups None (Quote ∷ lexemes) = token_groups (Some []) lexemes
+token_groups (Some token) (Quote ∷ lexemes) = token_groups (Some token) lexemes
+token_groups None (Octet symbol ∷ lexemes) = token_groups (Some (symbol ∷ [])) lexemes
+token_groups (Some token) (Octet symbol ∷ lexemes) = token_groups (Some (token ++ symbol ∷ [])) lexemes
 
 -- the tokens of pieces
 abbrev pub tokens_of : List Piece → List (List Symbol)
-tokens_of pieces = grouped None (flat_map lexemes_of pieces)
+tokens_of pieces = token_groups None (flat_map lexemes_of pieces)
 
 -- the text is an entry, and has these tokens
 abbrev pub HasTokens : List ℕ → List (List Symbol) → Type 0
 HasTokens text tokens =
-    (pieces : List Piece) × IsEntry 0 pieces × (text ≡ flat_map spelled pieces) × (tokens ≡ tokens_of pieces)
+    (pieces : List Piece) × IsEntry 0 pieces × (text ≡ flat_map piece_octets pieces) × (tokens ≡ tokens_of pieces)
 
 -- the pieces are parts of tokens
 abbrev pub AreParts : List Piece → Type 0
@@ -140,14 +140,14 @@ AreParts (piece ∷ pieces) = ⊥
 -- the text is wholly that of one token
 abbrev pub IsTokenText : List ℕ → List Symbol → Type 0
 IsTokenText text token =
-    (pieces : List Piece) × AreParts pieces × (text ≡ flat_map spelled pieces) × (tokens_of pieces ≡ token ∷ [])
+    (pieces : List Piece) × AreParts pieces × (text ≡ flat_map piece_octets pieces) × (tokens_of pieces ≡ token ∷ [])
 
 -- ---- faults
 
 -- behind a backslash stand these octets, and no escape begins there
 abbrev pub NoEscape : List ℕ → Type 0
 NoEscape rest = (symbol : Written) (more : List ℕ)
-    → IsSymbol (λ _. false) symbol → 92 ∷ rest ≡ written symbol ++ more → ⊥
+    → IsSymbol (λ _. false) symbol → 92 ∷ rest ≡ octet_text symbol ++ more → ⊥
 
 -- an octet that no text may have there
 abbrev pub is_stray : ℕ → Bool
@@ -179,8 +179,8 @@ FaultAfter rest fault = ⊥
 
 -- a row of pieces leads to the fault, or to a quote and symbols behind which it stands
 abbrev pub HasFault : ℕ → List ℕ → ScanError → Type 0
-HasFault depth text fault = (pieces : List Piece) × (rest : List ℕ) × (text ≡ flat_map spelled pieces ++ rest)
-    × (IsRow (FaultAt rest fault) (FaultAfter rest fault) rest depth pieces
-    ⊎ ((symbols : List Written) × (after : List ℕ) × (rest ≡ 34 ∷ flat_map written symbols ++ after)
+HasFault depth text fault = (pieces : List Piece) × (rest : List ℕ) × (text ≡ flat_map piece_octets pieces ++ rest)
+    × (IsPieceRow (FaultAt rest fault) (FaultAfter rest fault) rest depth pieces
+    ⊎ ((symbols : List Written) × (after : List ℕ) × (rest ≡ 34 ∷ flat_map octet_text symbols ++ after)
     × AllByRecursion (IsSymbol is_quotable) symbols × FaultInQuotes after fault
-    × IsRow (λ _. Unit {0}) ⊥ rest depth pieces))
+    × IsPieceRow (λ _. Unit {0}) ⊥ rest depth pieces))

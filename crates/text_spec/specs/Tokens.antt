@@ -4,7 +4,7 @@ use Rattle.text_spec.specs.declared.errors.ScanError.{ScanError}
 use Rattle.text_spec.specs.declared.lexeme.Symbol.{Symbol}
 use Rattle.text_spec.specs.declared.lexeme.Place.{Place}
 use Rattle.text_spec.specs.Lexing.{lexemes_at}
-use Rattle.text_spec.specs.Pieces.{grouped}
+use Rattle.text_spec.specs.Pieces.{token_groups}
 
 -- where a text begins
 abbrev pub start : Place
@@ -24,4 +24,4 @@ text_fault text = fault_of (lexemes_at start 0 text)
 
 -- the tokens of a text without a fault
 abbrev pub tokens_in : List ℕ → List (List Symbol)
-tokens_in text = grouped None (found_in (lexemes_at start 0 text))
+tokens_in text = token_groups None (found_in (lexemes_at start 0 text))

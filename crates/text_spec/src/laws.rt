@@ -1,7 +1,7 @@
 //! Laws of the texts of entries, each proved for all arguments. The functions do nothing when they run.
 
 ghost use Rattle.text_spec.specs.Laws.{TokensRead, FaultRead};
-ghost use Rattle.text_spec.specs.Laws.{OctetsReadBack, NameReadBack, Base64Exact, Base16ReadBack};
+ghost use Rattle.text_spec.specs.Laws.{OctetsReadBack, NameTextReadBack, Base64Exact, Base16ReadBack};
 ghost use Rattle.text_spec.specs.Laws.{PlainReadBack, DecimalReadBack, Base16TokenText, Base64TokenText};
 ghost use Rattle.text_spec.specs.Laws.{Ipv4TokenText, Ipv6TokenText, WordsReadBack, LayoutSplits};
 
@@ -21,8 +21,8 @@ pub fn octets_read_back()
 {}
 
 /// The printed text of a name with its final dot is wholly a token that spells the name.
-pub fn name_read_back()
-    ensures { NameReadBack }
+pub fn name_text_read_back()
+    ensures { NameTextReadBack }
 {}
 
 /// A text is read as exactly the octets whose base64 text it is.

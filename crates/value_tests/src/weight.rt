@@ -37,7 +37,7 @@ impl<'a> ParseSvcParamValue<'a> for Weight {
         key: SvcParamKey,
         parser: &mut Parser<'a>,
     ) -> Result<Option<Weight>, ParseError> {
-        let octets = parser.peek_all();
+        let octets = parser.remaining_octets();
         if u16::from(key) != SvcParamKey::PRIVATE_RANGE_BEGIN {
             return Ok(None);
         }

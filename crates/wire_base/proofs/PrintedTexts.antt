@@ -7,15 +7,15 @@ use Rattle.std.specs.declared.fmt.Formatter.{Formatter}
 use Rattle.std.proofs.lemmas.Bool.Decides.{nat_tests}
 use Rattle.std.proofs.lemmas.Str.{encode_ascii}
 use Rattle.std.proofs.lemmas.Fmt.{decimal_digit}
-use Rattle.name_spec.specs.Printed.{Plain, Escaped, Decimal, written, is_visible, printed_as, printed_octet, printed_label, printed_labels, printed_name, printed_name_with_dot}
+use Rattle.name_spec.specs.Printed.{Plain, Escaped, Decimal, octet_text, is_visible, printed_as, printed_octet, printed_label, printed_labels, printed_name, printed_name_with_dot}
 use Rattle.wire_base.specs.PrintedIn.{specials}
 
 -- ---- an octet
 
-chosen : (special : ℕ → Bool) (c : ℕ) (s v : Bool) → special c ≡ s → is_visible c ≡ v → printed_octet special c ≡ written (cond s (Escaped c) (cond v (Plain c) (Decimal c)))
+chosen : (special : ℕ → Bool) (c : ℕ) (s v : Bool) → special c ≡ s → is_visible c ≡ v → printed_octet special c ≡ octet_text (cond s (Escaped c) (cond v (Plain c) (Decimal c)))
 unfolding printed_as
 chosen special c s v is_s is_v =
-    ap (λ b. written (cond b (Escaped c) (cond (is_visible c) (Plain c) (Decimal c)))) is_s ∙ ap (λ b. written (cond s (Escaped c) (cond b (Plain c) (Decimal c)))) is_v
+    ap (λ b. octet_text (cond b (Escaped c) (cond (is_visible c) (Plain c) (Decimal c)))) is_s ∙ ap (λ b. octet_text (cond s (Escaped c) (cond b (Plain c) (Decimal c)))) is_v
 
 special_ascii : (in_name : Bool) (c : ℕ) → specials in_name c ≡ true → c < 128
 special_ascii true c special = grind (arith, nat_tests)

@@ -7,5 +7,5 @@ pub record Input : Type 0 where
   pub pos : ℕ
 
 -- the octets from the place to the end
-abbrev pub left : Input → List ℕ
-left input = slice_range input.message input.pos input.end
+abbrev pub octets_left : Input → List ℕ
+octets_left input = slice_range input.message input.pos input.end

@@ -3,7 +3,7 @@
 ghost use Rattle.std.specs.Prelude.{◌≤◌, length, MatchResult};
 ghost use Rattle.name_spec.specs.Names.{name_at};
 ghost use Rattle.wire_base.specs.Faults.{IsFaultOf};
-ghost use Rattle.wire_base.specs.NameParts.{IsPartAt, Spans};
+ghost use Rattle.wire_base.specs.NameParts.{IsPartAt, SpansName};
 
 use crate::errors::ParseError;
 
@@ -83,7 +83,7 @@ pub(crate) fn part_at(
 /// Reads the name at a place.
 pub(crate) fn span_at(message: &[u8], end: usize, start: usize) -> Result<Span, ParseError>
     requires in_message { end ≤ length message.now }
-    ensures { MatchResult result (Spans message.now end start)
+    ensures { MatchResult result (SpansName message.now end start)
         (λ error. IsFaultOf error (name_at message.now end start 0 0)) }
 {
     let mut pos = start;

@@ -3,7 +3,7 @@
 ghost use Rattle.std.specs.Prelude.{◌≡◌, ◌+◌, ◌≤◌, ◌<◌, length, slice_index, slice_range, IfOk, OnOk, OnErr};
 ghost use Rattle.std.specs.Int.{w32, from_be_bytes};
 ghost use Rattle.name_spec.specs.Octets.{number_at};
-ghost use Rattle.wire_base.specs.Input.{left};
+ghost use Rattle.wire_base.specs.Input.{octets_left};
 ghost use Rattle.wire_base.specs.Moving.{TakesOctets};
 
 use crate::errors::ShortInput;
@@ -80,8 +80,8 @@ impl<'a> Parser<'a> {
     }
 
     /// All octets before the end of the data. The parser stays.
-    pub fn peek_all(&self) -> &'a [u8]
-        ensures octets { result.now ≡ left self.now }
+    pub fn remaining_octets(&self) -> &'a [u8]
+        ensures octets { result.now ≡ octets_left self.now }
         ensures len { self.now.pos + length result.now ≡ self.now.end }
     {
         &self.message[self.pos..self.end]

@@ -2,7 +2,7 @@
 
 ghost use Rattle.std.specs.Prelude.{◌≡◌, ◌≤◌, ◌<◌, [], ◌∷◌, Some, refl, length, IfOk, OnOk, OnErr};
 ghost use Rattle.wire_base.specs.Faults.{GivesCopy};
-ghost use Rattle.wire_base.specs.Input.{left};
+ghost use Rattle.wire_base.specs.Input.{octets_left};
 ghost use Rattle.wire_base.specs.Moving.{TakesAll};
 ghost use Rattle.wire_records.specs.Reading.{unknown_read};
 ghost use Rattle.wire_records.specs.Texts.{unknown_text};
@@ -59,10 +59,10 @@ impl UnknownRecordData {
         rtype: Rtype,
         parser: &mut Parser<'_>,
     ) -> Result<UnknownRecordData, ParseError>
-        ensures answer { GivesCopy (λ found. found) result (unknown_read rtype (left parser.old)) }
+        ensures answer { GivesCopy (λ found. found) result (unknown_read rtype (octets_left parser.old)) }
         ensures takes { TakesAll parser.old parser.new result }
     {
-        let slice = parser.peek_all();
+        let slice = parser.remaining_octets();
         LongRecordData::check_len(slice.len())?;
         let octets = Octets::from_slice(alloc, slice)?;
         parser.advance_to_end();

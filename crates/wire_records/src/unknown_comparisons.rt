@@ -9,9 +9,9 @@ use wire_base::RecordData;
 impl PartialEq for UnknownRecordData {
     ghost use Rattle.std.specs.Cmp.Rules.{comparing};
     ghost use Rattle.std.proofs.Common.{rules};
-    ghost use Rattle.wire_records.specs.UnknownComparing.{is_same_data};
+    ghost use Rattle.wire_records.specs.UnknownComparing.{is_same_unknown};
 
-    ghost eq = { is_same_data };
+    ghost eq = { is_same_unknown };
 
     ghost laws = { Prim.search (comparing, rules) };
 
@@ -31,9 +31,9 @@ impl Eq for UnknownRecordData {
 impl Ord for UnknownRecordData {
     ghost use Rattle.std.specs.Cmp.Rules.{comparing};
     ghost use Rattle.std.proofs.Common.{rules};
-    ghost use Rattle.wire_records.specs.UnknownComparing.{data_cmp};
+    ghost use Rattle.wire_records.specs.UnknownComparing.{unknown_cmp};
 
-    ghost cmp = { data_cmp };
+    ghost cmp = { unknown_cmp };
 
     ghost total = { Prim.search (comparing, rules) };
 
@@ -53,9 +53,9 @@ impl PartialOrd for UnknownRecordData {
     ghost use Rattle.std.specs.Cmp.{partial_order_from_own_ties};
     ghost use Rattle.std.specs.Cmp.Rules.{comparing};
     ghost use Rattle.std.proofs.Common.{rules};
-    ghost use Rattle.wire_records.specs.UnknownComparing.{data_cmp};
+    ghost use Rattle.wire_records.specs.UnknownComparing.{unknown_cmp};
 
-    ghost partial_cmp = { as_partial_cmp data_cmp };
+    ghost partial_cmp = { as_partial_cmp unknown_cmp };
 
     ghost laws = { partial_order_from_own_ties
         (Prim.search (comparing, rules)) (Prim.search (comparing, rules)) };
@@ -69,9 +69,9 @@ impl PartialOrd for UnknownRecordData {
 impl Hash for UnknownRecordData {
     ghost use Rattle.std.specs.Cmp.Rules.{hashing};
     ghost use Rattle.std.proofs.Common.{rules};
-    ghost use Rattle.wire_records.specs.UnknownComparing.{data_fed};
+    ghost use Rattle.wire_records.specs.UnknownComparing.{unknown_hash_input};
 
-    ghost hash_input = { data_fed };
+    ghost hash_input = { unknown_hash_input };
 
     ghost respects_eq = { Prim.search (hashing, rules) };
 

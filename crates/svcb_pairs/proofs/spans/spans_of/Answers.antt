@@ -3,7 +3,7 @@ use Rattle.std.proofs.lemmas.Result.{IfOk-weaker}
 use Rattle.std.specs.BTreeMap.{IsFromIterResult}
 use Rattle.std.specs.Ordering.{nat_cmp}
 use Rattle.svcb_spec.specs.Params.{IsMap}
-use Rattle.svcb_pairs.specs.Spans.{spanned_pairs, AreInside}
+use Rattle.svcb_pairs.specs.Spans.{limited_pairs, AreInside}
 use Rattle.svcb_pairs.proofs.FirstPair.{is_first, rest_are, no_pair}
 use Rattle.svcb_pairs.proofs.ReadSpans.{first_long, behind_here, next_spanned, next_inside, all_spanned, made_of}
 use Rattle.svcb_pairs.proofs.spans.spans_of.Goals as goal
@@ -42,7 +42,7 @@ returns-clause-pairs c =
     let l = c.loop-key in
     let all = all_spanned octets l.rest.now l.entries.items (no_pair l.rest.now l.invariant.are c.in_default.ensures.short) l.invariant.so_far in
     IfOk-weaker c.map_of.result (IsFromIterResult nat_cmp l.entries.items) _
-    (λ made from. ap (spanned_pairs octets) (made_of octets l.entries.items made (subst IsMap (sym all) c.requires.is_map) from) ∙ all) c.map_of.ensures
+    (λ made from. ap (limited_pairs octets) (made_of octets l.entries.items made (subst IsMap (sym all) c.requires.is_map) from) ∙ all) c.map_of.ensures
 
 pub returns-clause-inside : goal.returns-clause-inside
 returns-clause-inside c =

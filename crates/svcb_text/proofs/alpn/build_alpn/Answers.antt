@@ -1,6 +1,6 @@
 use Rattle.std.proofs.Common.{◌≡◌, ◌<◌, List, ℕ, length, take, get_or, sym, subst, arith}
 use Rattle.svcb_spec.specs.Values.{Alpn, protocols_wire}
-use Rattle.svcb_list.specs.Pushing.{IsProtocol}
+use Rattle.svcb_list.specs.Pushing.{IsProtocolLength}
 use Rattle.svcb_text.proofs.ProtocolLemmas.{push_answers, protocol_at, protocols_exceed}
 use Rattle.svcb_text.proofs.alpn.build_alpn.Goals as goal
 
@@ -11,7 +11,7 @@ returns-in-Err c =
     let item = c.protocol-item.result in
     let within : i < length protocols = omega arith in
     let at : item ≡ get_or protocols i item = c.protocol-item.is in
-    let is : IsProtocol (length item) = subst (λ (p : List ℕ). IsProtocol (length p)) (sym at) (protocol_at i protocols item c.requires within) in
+    let is : IsProtocolLength (length item) = subst (λ (p : List ℕ). IsProtocolLength (length p)) (sym at) (protocol_at i protocols item c.requires within) in
     let refused = rw (c.as_slice.ensures, c.loop-protocol.invariant.built) at c.in-Err.ensures.answer in
     rw c.protocol_fault.ensures (push_answers c.in-Err.error (length (protocols_wire (take i protocols))) (length item) (Alpn protocols) is refused
     (λ over. protocols_exceed i protocols item within at over))

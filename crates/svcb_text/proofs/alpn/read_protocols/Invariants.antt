@@ -1,6 +1,6 @@
 use Rattle.std.proofs.Common.{◌≡◌, length}
 use Rattle.svcb_spec.specs.Values.{Each}
-use Rattle.svcb_list.specs.Pushing.{IsProtocol}
+use Rattle.svcb_list.specs.Pushing.{IsProtocolLength}
 use Rattle.svcb_spec.specs.ValueTexts.{protocols_of}
 use Rattle.svcb_text.proofs.ProtocolLemmas.{behind_protocols, protocols_left, left_len}
 use Rattle.svcb_text.proofs.alpn.read_protocols.Given as goal
@@ -8,7 +8,7 @@ use Rattle.svcb_text.proofs.alpn.read_protocols.Given as goal
 abbrev pub invariant-loop-protocols : goal.invariant-loop-protocols
 invariant-loop-protocols l = record {
   so_far : protocols_of l.text ≡ behind_protocols l.protocols.items (protocols_left l.items);
-  each : Each (λ protocol. IsProtocol (length protocol)) l.protocols.items;
+  each : Each (λ protocol. IsProtocolLength (length protocol)) l.protocols.items;
 }
 
 abbrev pub decreases-loop-protocols : goal.decreases-loop-protocols

@@ -1,6 +1,6 @@
 use Rattle.std.proofs.Common.{◌≡◌, ◌∙◌, ◌*◌, ◌<◌, [], List, ℕ, length, Result, Ok, ap, arith}
 use Rattle.std.proofs.lemmas.Result.{err_from_is_err_and}
-use Rattle.svcb_spec.specs.Values.{TlsSupportedGroups, numbers_wire}
+use Rattle.svcb_spec.specs.Values.{TlsSupportedGroups, numbers16_wire}
 use Rattle.svcb_spec.proofs.ItemLaws.{length-numbers_wire}
 use Rattle.text_spec.specs.declared.errors.ScanError.{ScanError}
 use Rattle.svcb_spec.specs.ListTexts.{◌>>=◌}
@@ -28,7 +28,7 @@ returns c =
     groups_value-list text ∙ ap (λ (r : Result (List ℕ) ScanError). r >>= λ items. short_value (TlsSupportedGroups items)) read in
     let same : c.deref.result.now ≡ groups = c.deref.ensures.value ∙ ap (λ v. v.items) c.into_numbers.ensures in
     let some : 0 < length groups * 2 = omega (arith, some_items read_group text groups read) in
-    let count : length (numbers_wire groups) ≡ length groups * 2 = omega (arith, length-numbers_wire groups) in
+    let count : length (numbers16_wire groups) ≡ length groups * 2 = omega (arith, length-numbers_wire groups) in
     rw whole (built_answers c.from_keys.result c.or_fault.result (TlsSupportedGroups groups) (length groups * 2)
     (rw same at c.from_keys.ensures.value) c.or_fault.ensures count
     (built_not_empty c.from_keys.result (length groups * 2) some (rw same at c.from_keys.ensures.answer)))

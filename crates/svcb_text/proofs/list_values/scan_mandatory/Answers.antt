@@ -1,6 +1,6 @@
 use Rattle.std.proofs.Common.{◌≡◌, ◌∙◌, ◌*◌, [], List, ℕ, length, Result, Ok, ap, arith}
 use Rattle.std.proofs.lemmas.Result.{err_from_is_err_and}
-use Rattle.svcb_spec.specs.Values.{Mandatory, numbers_wire}
+use Rattle.svcb_spec.specs.Values.{Mandatory, numbers16_wire}
 use Rattle.svcb_spec.proofs.ItemLaws.{length-numbers_wire}
 use Rattle.text_spec.specs.declared.errors.ScanError.{ScanError}
 use Rattle.svcb_spec.specs.ListTexts.{◌>>=◌}
@@ -27,6 +27,6 @@ returns c =
     let whole : mandatory_value text ≡ short_value (Mandatory keys) =
     mandatory_value-list text ∙ ap (λ (r : Result (List ℕ) ScanError). r >>= λ items. short_value (Mandatory items)) read in
     let same : c.deref.result.now ≡ keys = c.deref.ensures.value ∙ c.in_ok-keys.ensures in
-    let count : length (numbers_wire keys) ≡ length keys * 2 = omega (arith, length-numbers_wire keys) in
+    let count : length (numbers16_wire keys) ≡ length keys * 2 = omega (arith, length-numbers_wire keys) in
     rw whole (built_answers c.from_keys.result c.or_fault.result (Mandatory keys) (length keys * 2)
     (rw same at c.from_keys.ensures.value) c.or_fault.ensures count (rw same at c.from_keys.ensures.answer))

@@ -1,7 +1,7 @@
 use Rattle.std.proofs.Common.{[], ◌++◌, ap, ◌∙◌}
 use Rattle.svcb_spec.specs.Params.{wire}
 use Rattle.svcb_pairs.specs.BuilderState.{BuilderState}
-use Rattle.svcb_pairs.specs.SpannedView.{builder_state}
+use Rattle.svcb_pairs.specs.LimitedPairsView.{builder_state}
 use Rattle.svcb_pairs.proofs.Written.{is_written, written_pairs}
 use Rattle.svcb_params.proofs.builder.SvcParamsBuilder.freeze.Goals as goal
 

@@ -1,5 +1,0 @@
-use Rattle.record_laws.proofs.Octets.{data_again}
-use Rattle.record_laws.proofs.records.data_read_back.Goals as goal
-
-pub returns : goal.returns
-returns c = data_again

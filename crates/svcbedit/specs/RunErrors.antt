@@ -1,0 +1,37 @@
+-- Why the program stops with no report, or with a part of it.
+use Rattle.std.specs.Prelude.{◌≡◌, ℕ}
+use Rattle.std.specs.declared.io.ErrorKind.{ErrorKind}
+use Rattle.std.specs.declared.io.ErrorKind.TheVariants.{OutOfMemory}
+use Rattle.devices.specs.Faults.{Rose}
+use Rattle.devices.specs.declared.transfer.ReadError.{ReadError}
+use Rattle.devices.specs.declared.transfer.ReadError.TheVariants as read
+use Rattle.svcbedit.specs.declared.run_error.RunError.{RunError}
+use Rattle.svcbedit.specs.declared.run_error.RunError.TheVariants.{ReadFault, WriteFault, NoMemory}
+
+-- the status of each stop
+abbrev pub run_error_status : RunError → ℕ
+run_error_status ReadFault = 4
+run_error_status WriteFault = 5
+run_error_status NoMemory = 6
+
+-- the status where the system refuses the words: that of want of memory, or one that no run gives
+abbrev pub status_without_words : ErrorKind → ℕ
+status_without_words OutOfMemory = 6
+status_without_words _ = 7
+
+-- the cause where an input is not read
+abbrev pub run_error_of : ReadError → RunError
+run_error_of read.Failed = ReadFault
+run_error_of read.NoMemory = NoMemory
+
+-- the source's count rose at a read fault alone
+abbrev pub SourceCause : RunError → ℕ → ℕ → Type 0
+SourceCause ReadFault before now = Rose before now
+SourceCause WriteFault before now = now ≡ before
+SourceCause NoMemory before now = now ≡ before
+
+-- the sink's count rose at a write fault alone
+abbrev pub SinkCause : RunError → ℕ → ℕ → Type 0
+SinkCause ReadFault before now = now ≡ before
+SinkCause WriteFault before now = Rose before now
+SinkCause NoMemory before now = now ≡ before

@@ -1,5 +1,0 @@
-use Rattle.text_spec.proofs.NameTexts.{name_again}
-use Rattle.text_spec.proofs.laws.name_read_back.Goals as goal
-
-pub returns : goal.returns
-returns c = name_again
