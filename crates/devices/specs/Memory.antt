@@ -11,8 +11,8 @@ pub record MemoryFeed : Type 0 where
   pub calls : ℕ
   pub faults : ℕ
 
--- a sink: the octets that it holds, the places that are left, the most that a write takes, the numbers of
--- the writes that fail, how many writes there were, and how many of them failed
+-- a sink: the octets that it holds, the places that are left, the most that a write takes, the
+-- numbers of the writes that fail, how many writes there were, and how many of them failed
 pub record MemoryStore : Type 0 where
   pub held : List ℕ
   pub places : ℕ
@@ -27,4 +27,5 @@ ReadFails feed = Contains feed.failing (one_more feed.calls)
 
 -- the next write is one of those that fail, or has octets and no place for them
 abbrev pub WriteFails : MemoryStore → List ℕ → Type 0
-WriteFails store bytes = Contains store.failing (one_more store.calls) ⊎ ((0 < length bytes) × (store.places ≡ 0))
+WriteFails store bytes = Contains store.failing (one_more store.calls)
+    ⊎ ((0 < length bytes) × (store.places ≡ 0))

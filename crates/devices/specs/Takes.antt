@@ -12,7 +12,8 @@ TakesAtMost (Some xs) (Some ys) most = length xs ≤ length ys + most
 abbrev pub TakesFront : Option (List ℕ) → Option (List ℕ) → Type 0
 TakesFront old new = (taken : List ℕ) × Consumes old new taken
 
--- Some octets are taken from the front, and at most so many. A source that tells its octets goes on to tell them.
+-- Some octets are taken from the front, and at most so many. A source that tells its octets goes on
+-- to tell them.
 pub record TakesInput (old new : Option (List ℕ)) (limit : ℕ) : Type 0 where
   pub most : TakesAtMost old new limit
   pub front : TakesFront old new

@@ -23,5 +23,7 @@ equal_three p q r = ap (λ b. p && b) (equal_two q r)
 pub then_two : (p q : Ordering) → ordering_then p q ≡ ordering_then p (ordering_then q Equal)
 then_two p q = ap (ordering_then p) (then_equal q)
 
-pub then_three : (p q r : Ordering) → ordering_then p (ordering_then q r) ≡ ordering_then p (ordering_then q (ordering_then r Equal))
+pub then_three : (p q r : Ordering)
+    → ordering_then p (ordering_then q r)
+    ≡ ordering_then p (ordering_then q (ordering_then r Equal))
 then_three p q r = ap (ordering_then p) (then_two q r)

@@ -74,7 +74,7 @@ impl<F: AssociationFields> AssociationData<F> {
 
     /// Reads the data in all octets before the end of the data, and copies it.
     ///
-    /// `ShortInput`: an octet of a fixed field is missing, or the last field has too few. `RecordForm`: else, there are more
+    /// `ShortInput`: an octet of a fixed field is missing, or the last field has too few. `Form`: else, there are more
     /// than 65,535 octets. `NoMemory`: the data has no fault, and the memory for the copy isn't there. The parser then
     /// stays.
     pub fn parse(alloc: Global, parser: &mut Parser<'_>) -> Result<AssociationData<F>, ParseError>
@@ -83,7 +83,7 @@ impl<F: AssociationFields> AssociationData<F> {
         ensures takes { TakesAll parser.old parser.new result }
         ensures short { IsErrOf result ParseError.ShortInput
             → length (octets_left parser.old) < fixed_len F.definition.fields + F.definition.least }
-        ensures form { IsErrOf result ParseError.RecordForm → 65535 < length (octets_left parser.old) }
+        ensures form { IsErrOf result ParseError.Form → 65535 < length (octets_left parser.old) }
     {
         let octets = parser.remaining_octets();
         let form = F::form();

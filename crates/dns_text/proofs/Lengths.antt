@@ -12,28 +12,39 @@ use Rattle.text_spec.specs.declared.lexeme.Symbol.{Symbol}
 use Rattle.text_spec.specs.declared.lexeme.Lexeme.TheVariants.{Octet, Quote, Gap}
 use Rattle.text_spec.proofs.Skips.{after, lexemes_at-front}
 
-length-with_front : (front : Lexeme) (answer : Result (List Lexeme) ScanError) → length (found_in (with_front front answer)) ≤ length (found_in answer) + 1
+length-with_front : (front : Lexeme) (answer : Result (List Lexeme) ScanError)
+    → length (found_in (with_front front answer)) ≤ length (found_in answer) + 1
 length-with_front front (Ok lexemes) = omega arith
 length-with_front front (Err fault) = omega arith
 
 length-end_at : (place : Place) → length (found_in (end_at place)) ≡ 0
 length-end_at place =
-    elim place.quoted as (λ q. length {A = Lexeme} (found_in {T = Lexeme} (cond q (Err OpenQuote) (cond (place.depth == 0) (Ok []) (Err BadBracket)))) ≡ 0) [
+    elim place.quoted as
+        (λ q. length {A = Lexeme}
+        (found_in {T = Lexeme}
+        (cond q (Err OpenQuote) (cond (place.depth == 0) (Ok []) (Err BadBracket)))) ≡ 0) [
       | true ↦ refl
-      | false ↦ elim (place.depth == 0) as (λ b. length {A = Lexeme} (found_in {T = Lexeme} (cond b (Ok []) (Err BadBracket))) ≡ 0) [ true ↦ refl | false ↦ refl ]
+      | false ↦ elim (place.depth == 0) as
+          (λ b. length {A = Lexeme} (found_in {T = Lexeme} (cond b (Ok []) (Err BadBracket))) ≡ 0)
+          [ true ↦ refl | false ↦ refl ]
     ]
 
 -- each lexeme has an octet of its own
-pub length-lexemes : (place : Place) (skip : ℕ) (text : List ℕ) → length (found_in (lexemes_at place skip text)) ≤ length text
+pub length-lexemes : (place : Place) (skip : ℕ) (text : List ℕ)
+    → length (found_in (lexemes_at place skip text)) ≤ length text
 unfolding lexemes_at
 length-lexemes place skip [] = omega (arith, length-end_at place)
 length-lexemes place (suc skip) (c ∷ rest) = omega (arith, length-lexemes place skip rest)
 length-lexemes place zero (c ∷ rest) =
-    let by_front = ap (λ (r : Result (List Lexeme) ScanError). length (found_in r)) (lexemes_at-front place c rest) in
+    let by_front =
+        ap (λ (r : Result (List Lexeme) ScanError). length (found_in r))
+        (lexemes_at-front place c rest) in
     let most : length (found_in (after rest (step place c rest))) ≤ length rest + 1 =
     elim (step place c rest) as (λ r. length (found_in (after rest r)) ≤ length rest + 1) [
       | Err fault ↦ omega arith
-      | Ok front ↦ omega (arith, length-with_front front.lexeme (lexemes_at front.place front.len rest), length-lexemes front.place front.len rest)
+      | Ok front ↦ omega
+          (arith, length-with_front front.lexeme (lexemes_at front.place front.len rest),
+          length-lexemes front.place front.len rest)
     ] in
     omega (arith, by_front, most)
 
@@ -44,12 +55,15 @@ mutual
   length-grouped (Quote ∷ lexemes) = omega (arith, length-grouped_open [] lexemes)
   length-grouped (Octet symbol ∷ lexemes) = omega (arith, length-grouped_open (symbol ∷ []) lexemes)
 
-  length-grouped_open : (token : List Symbol) (lexemes : List Lexeme) → length (token_groups (Some token) lexemes) ≤ length lexemes + 1
+  length-grouped_open : (token : List Symbol) (lexemes : List Lexeme)
+      → length (token_groups (Some token) lexemes) ≤ length lexemes + 1
   length-grouped_open token [] = omega arith
   length-grouped_open token (Gap ∷ lexemes) = omega (arith, length-grouped lexemes)
   length-grouped_open token (Quote ∷ lexemes) = omega (arith, length-grouped_open token lexemes)
-  length-grouped_open token (Octet symbol ∷ lexemes) = omega (arith, length-grouped_open (token ++ symbol ∷ []) lexemes)
+  length-grouped_open token (Octet symbol ∷ lexemes) =
+      omega (arith, length-grouped_open (token ++ symbol ∷ []) lexemes)
 
 -- a text has no more tokens than octets
 pub length-tokens : (text : List ℕ) → length (tokens_in text) ≤ length text
-length-tokens text = omega (arith, length-grouped (found_in (lexemes_at start 0 text)), length-lexemes start 0 text)
+length-tokens text =
+    omega (arith, length-grouped (found_in (lexemes_at start 0 text)), length-lexemes start 0 text)

@@ -16,8 +16,10 @@ abbrev pub StaysWithin : Place → List ℕ → Result Front ScanError → Type 
 StaysWithin place rest result =
     IfOk result (λ front. (front.len ≤ length rest) × (front.place.depth ≤ place.depth + 1))
 
--- what a call answers that takes a lexeme, where the first of these lexemes were left before it and the others after it
-abbrev pub Takes : Result (Option Lexeme) ScanError → Result (List Lexeme) ScanError → Result (List Lexeme) ScanError
+-- what a call answers that takes a lexeme, where the first of these lexemes were left before it and
+-- the others after it
+abbrev pub Takes : Result (Option Lexeme) ScanError → Result (List Lexeme) ScanError
+    → Result (List Lexeme) ScanError
     → Type 0
 Takes (Ok (Some lexeme)) before after = before ≡ with_front lexeme after
 Takes (Ok None) before after = (before ≡ Ok []) × (after ≡ Ok [])
@@ -32,12 +34,15 @@ BeginsToken (lexeme ∷ lexemes) = Unit {0}
 -- the next symbol of the token that is read, or none where the token ends
 abbrev pub GoesOn : Option Symbol → List Lexeme → List Lexeme → Type 0
 GoesOn (Some symbol) old new =
-    (token : List Symbol) → token_groups (Some token) old ≡ token_groups (Some (token ++ symbol ∷ [])) new
-GoesOn None old new = (token : List Symbol) → token_groups (Some token) old ≡ token ∷ token_groups None new
+    (token : List Symbol)
+        → token_groups (Some token) old ≡ token_groups (Some (token ++ symbol ∷ [])) new
+GoesOn None old new =
+    (token : List Symbol) → token_groups (Some token) old ≡ token ∷ token_groups None new
 
 -- the count of the next token's symbols
 abbrev pub token_len : List Lexeme → ℕ
-token_len lexemes = option_map_or (λ token. length token) (slice_get (token_groups None lexemes) 0) 0
+token_len lexemes =
+    option_map_or (λ token. length token) (slice_get (token_groups None lexemes) 0) 0
 
 -- a token is left, and these tokens are left behind it
 pub record IsBehindNext (scan : Scan) (left : List (List Symbol)) : Type 0 where

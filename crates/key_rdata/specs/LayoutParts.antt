@@ -10,16 +10,21 @@ abbrev pub precedence_items : Ipseckey → List Item
 precedence_items found = Token (decimal found.precedence) ∷ Comment (codes "precedence") ∷ []
 
 abbrev pub type_items : Ipseckey → List Item
-type_items found = Token (decimal (gateway_type found.gateway)) ∷ Comment (type_comment found.gateway) ∷ Comment (codes "gateway type") ∷ []
+type_items found =
+    Token (decimal (gateway_type found.gateway)) ∷ Comment (type_comment found.gateway)
+    ∷ Comment (codes "gateway type") ∷ []
 
 abbrev pub algorithm_items : Ipseckey → List Item
-algorithm_items found = Token (decimal found.algorithm) ∷ Comment (algorithm_comment found.algorithm) ∷ Comment (codes "algorithm") ∷ []
+algorithm_items found =
+    Token (decimal found.algorithm) ∷ Comment (algorithm_comment found.algorithm)
+    ∷ Comment (codes "algorithm") ∷ []
 
 abbrev pub ipseckey_numbers_items : Ipseckey → List Item
 ipseckey_numbers_items found = precedence_items found ++ type_items found ++ algorithm_items found
 
 abbrev pub key_items : Ipseckey → List Item
-key_items found = gateway_document found.gateway ++ Comment (codes "gateway") ∷ Token (base64_text found.key) ∷ []
+key_items found =
+    gateway_document found.gateway ++ Comment (codes "gateway") ∷ Token (base64_text found.key) ∷ []
 
 -- what stands in the block
 abbrev pub fields_items : Ipseckey → List Item

@@ -10,4 +10,6 @@ abbrev pub scan_behind_numbers : ℕ → ℕ → ℕ → Scanning Ipseckey
 scan_behind_numbers precedence type algorithm tokens place =
     scan_then (scan_gateway type tokens place) (λ gateway after_gateway.
     scan_then (rest_base64 tokens after_gateway) (λ key end.
-    complete_ipseckey (record { precedence = precedence; algorithm = algorithm; gateway = gateway; key = key }) tokens end))
+    complete_ipseckey
+        (record { precedence = precedence; algorithm = algorithm; gateway = gateway; key = key })
+        tokens end))

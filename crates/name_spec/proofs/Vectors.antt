@@ -64,7 +64,8 @@ unfolding name_at name_within name_step
 no_root = refl
 
 -- behind labels of so many octets
-octets_254 : name_at abcd 6 0 249 0 ≡ Ok (record { labels = (0x61 ∷ 0x62 ∷ 0x63 ∷ 0x64 ∷ []) ∷ []; next = 6 })
+octets_254 : name_at abcd 6 0 249 0
+    ≡ Ok (record { labels = (0x61 ∷ 0x62 ∷ 0x63 ∷ 0x64 ∷ []) ∷ []; next = 6 })
 unfolding name_at name_within name_step
 octets_254 = refl
 

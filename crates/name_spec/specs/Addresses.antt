@@ -1,5 +1,5 @@
--- The texts of addresses. Which texts are read, and what is printed (RFC 5952 for IPv6), are std's definitions; the laws
--- `Ipv4ByGrammar` and `Ipv6ByGrammar` say which texts are read by a grammar.
+-- The texts of addresses. Which texts are read, and what is printed (RFC 5952 for IPv6), are std's
+-- definitions; the laws `Ipv4ByGrammar` and `Ipv6ByGrammar` say which texts are read by a grammar.
 use Rattle.std.specs.Prelude.{ℕ, List, Option, option_map}
 use Rattle.std.specs.Net.Addr.{octets_of, segments_of}
 use Rattle.std.specs.Net.Reader.{read_ipv4, read_ipv6, whole_value}

@@ -1,5 +1,5 @@
--- Names (RFC 1035, section 4.1.4): at most 255 octets uncompressed, and at most 255 pointers, each to an earlier place.
--- The bound on pointers and the order of the tests are this project's own.
+-- Names (RFC 1035, section 4.1.4): at most 255 octets uncompressed, and at most 255 pointers, each
+-- to an earlier place. The bound on pointers and the order of the tests are this project's own.
 use Rattle.std.specs.Prelude.{ℕ, zero, suc, ◌+◌, ◌-◌, ◌*◌, ◌%◌, ◌<◌, ◌≤◌, ◌||◌, Bool, true, false, List, [], ◌∷◌, ◌++◌, length, Result, Ok, Err, slice_index, slice_range, nat_lt, nat_le, ◌==◌, if◌then◌else◌}
 use Rattle.name_spec.specs.Octets.{Fault, Short, Form}
 
@@ -18,8 +18,8 @@ abbrev pub by_pointer : ℕ → Result NameRead Fault → Result NameRead Fault
 by_pointer next (Ok target) = Ok (record { labels = target.labels; next = next })
 by_pointer next (Err fault) = Err fault
 
--- How a name is read at a place: `octets` counts the labels so far with their length octets, and `pointers` the
--- pointers that were followed.
+-- How a name is read at a place: `octets` counts the labels so far with their length octets, and
+-- `pointers` the pointers that were followed.
 abbrev pub Reading : Type 0
 Reading = (pos octets pointers : ℕ) → Result NameRead Fault
 
@@ -34,7 +34,8 @@ label_step again message end pos octets pointers =
     else if nat_lt 254 (octets + first + 1) then Err Form
     else with_label (slice_range message (pos + 1) (pos + 1 + first)) rest
 
--- an octet of 192 or more: the low 14 bits of two octets are an earlier place, where the name goes on
+-- an octet of 192 or more: the low 14 bits of two octets are an earlier place, where the name goes
+-- on
 abbrev pub pointer_step : Reading → List ℕ → ℕ → ℕ → ℕ → ℕ → Result NameRead Fault
 pointer_step again message end pos octets pointers =
     let target = (slice_index message pos % 64) * 256 + slice_index message (pos + 1) in
@@ -60,14 +61,14 @@ unfoldable pub name_within : ℕ → List ℕ → ℕ → ℕ → ℕ → ℕ �
 name_within zero message end = name_step (λ _ _ _. Err Form) message end
 name_within (suc steps) message end = name_step (name_within steps message end) message end
 
--- The name at a place. A label adds to `octets` and a pointer to `pointers`, so these steps are enough: the law
--- `name_at-step` says that `name_at` is `name_step` of itself.
+-- The name at a place. A label adds to `octets` and a pointer to `pointers`, so these steps are
+-- enough: the law `name_at-step` says that `name_at` is `name_step` of itself.
 unfoldable pub name_at : List ℕ → ℕ → ℕ → ℕ → ℕ → Result NameRead Fault
 name_at message end pos octets pointers =
     name_within ((254 - octets) + (255 - pointers)) message end pos octets pointers
 
--- whether the labels at a place end in a pointer and not in the root, where `again pos` looks on behind a label; a
--- reserved octet counts as a pointer, since no name can be read there
+-- whether the labels at a place end in a pointer and not in the root, where `again pos` looks on
+-- behind a label; a reserved octet counts as a pointer, since no name can be read there
 unfoldable pub pointed_step : (ℕ → Bool) → List ℕ → ℕ → ℕ → Bool
 pointed_step again message end pos =
     let first = slice_index message pos in
@@ -81,18 +82,20 @@ unfoldable pub pointed_within : ℕ → List ℕ → ℕ → ℕ → Bool
 pointed_within zero message end = pointed_step (λ _. false) message end
 pointed_within (suc steps) message end = pointed_step (pointed_within steps message end) message end
 
--- Whether a pointer is followed to read the name at a place, where a name can be read: its own labels end in a pointer,
--- and not in the root. Each label goes on, so these steps are enough: the law `is_pointed-step` says that it is
--- `pointed_step` of itself.
+-- Whether a pointer is followed to read the name at a place, where a name can be read: its own
+-- labels end in a pointer, and not in the root. Each label goes on, so these steps are enough: the
+-- law `is_pointed-step` says that it is `pointed_step` of itself.
 unfoldable pub is_pointed : List ℕ → ℕ → ℕ → Bool
 is_pointed message end pos = pointed_within (end - pos) message end pos
 
--- the uncompressed octets of a name: for each label its length and the label, and then the root's octet 0
+-- the uncompressed octets of a name: for each label its length and the label, and then the root's
+-- octet 0
 abbrev pub name_wire : List (List ℕ) → List ℕ
 name_wire [] = 0 ∷ []
 name_wire (label ∷ labels) = length label ∷ label ++ name_wire labels
 
--- labels that a name may have behind labels of so many octets: 1 to 63 octets each, and at most 254 with their lengths
+-- labels that a name may have behind labels of so many octets: 1 to 63 octets each, and at most 254
+-- with their lengths
 abbrev pub AreLabels : ℕ → List (List ℕ) → Type 0
 AreLabels octets [] = Unit {0}
 AreLabels octets (label ∷ labels) =

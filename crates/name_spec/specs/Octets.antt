@@ -1,7 +1,8 @@
 -- Octets of a message, the numbers in them, and the faults of reading them.
 use Rattle.std.specs.Prelude.{ℕ, ◌+◌, ◌*◌, ◌/◌, ◌%◌, List, [], ◌∷◌, Result, Ok, Err, slice_index}
 
--- Short: octets are missing. Form: an octet, a length, a pointer or two keys are not allowed, or octets are left over.
+-- Short: octets are missing. Form: an octet, a length, a pointer or two keys are not allowed, or
+-- octets are left over.
 pub data Fault : Type 0 where
   Short : Fault
   Form : Fault

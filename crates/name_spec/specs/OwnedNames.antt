@@ -11,8 +11,8 @@ use Rattle.name_spec.specs.Names.{NameRead, name_at, is_pointed, name_wire}
 abbrev pub labels_to : ℕ → NameRead → Result (List (List ℕ)) Fault
 labels_to end name = if name.next == end then Ok name.labels else Err Form
 
--- The labels, without the root, of octets that are wholly an uncompressed name (RFC 1035, section 3.1). An octet of 64
--- or more where a label begins is not allowed, even as the last octet.
+-- The labels, without the root, of octets that are wholly an uncompressed name (RFC 1035, section
+-- 3.1). An octet of 64 or more where a label begins is not allowed, even as the last octet.
 unfoldable pub name_in : List ℕ → Result (List (List ℕ)) Fault
 name_in octets =
     let end = length octets in
@@ -31,8 +31,8 @@ is_same_name = on in_lower_case (pointwise (pointwise ◌==◌))
 abbrev pub from_last : List (List ℕ) → List (List ℕ)
 from_last labels = reverse (in_lower_case labels)
 
--- the canonical order (RFC 4034, section 6.1): labels from the last to the first, each by its octets in lower case, and
--- the name with fewer labels first
+-- the canonical order (RFC 4034, section 6.1): labels from the last to the first, each by its
+-- octets in lower case, and the name with fewer labels first
 abbrev pub name_cmp : List (List ℕ) → List (List ℕ) → Ordering
 name_cmp = on from_last (slice_cmp (slice_cmp nat_cmp))
 

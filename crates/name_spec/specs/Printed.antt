@@ -1,8 +1,10 @@
--- How octets and names are printed (RFC 1035, section 5.1). Which octets stand behind a backslash is this project's own.
+-- How octets and names are printed (RFC 1035, section 5.1). Which octets stand behind a backslash
+-- is this project's own.
 use Rattle.std.specs.Prelude.{ℕ, ◌+◌, ◌/◌, ◌%◌, Bool, ◌&&◌, ◌||◌, nat_lt, ◌==◌, if◌then◌else◌, List, [], ◌∷◌, ◌++◌}
 use Rattle.std.specs.List.{flat_map}
 
--- how an octet is written: as itself, behind a backslash, or as a backslash and three decimal digits
+-- how an octet is written: as itself, behind a backslash, or as a backslash and three decimal
+-- digits
 pub data Written : Type 0 where
   Plain : (octet : ℕ) → Written
   Escaped : (octet : ℕ) → Written
@@ -12,7 +14,8 @@ pub data Written : Type 0 where
 abbrev pub octet_text : Written → List ℕ
 octet_text (Plain octet) = octet ∷ []
 octet_text (Escaped octet) = 92 ∷ octet ∷ []
-octet_text (Decimal octet) = 92 ∷ (48 + octet / 100) ∷ (48 + octet / 10 % 10) ∷ (48 + octet % 10) ∷ []
+octet_text (Decimal octet) =
+    92 ∷ (48 + octet / 100) ∷ (48 + octet / 10 % 10) ∷ (48 + octet % 10) ∷ []
 
 -- space, `"`, `\`, `;`, `(` and `)`, which are printed behind a backslash
 abbrev pub is_special : ℕ → Bool

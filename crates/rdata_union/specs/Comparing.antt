@@ -71,13 +71,17 @@ content_cmp (Gateway found) (Gateway found') = ipseckey_cmp found found'
 content_cmp (Service found) (Service found') = svcb.svcb_cmp found found'
 content_cmp x y = nat_cmp (content_rank x) (content_rank y)
 
--- Equal data is of one type number, both are held by their fields or both as octets, and what they hold is equal.
+-- Equal data is of one type number, both are held by their fields or both as octets, and what they
+-- hold is equal.
 abbrev pub is_same_union : RecordData → RecordData → Bool
-is_same_union = eq_of_both (on unknown_rank ◌==◌) (eq_of_both (on rtype_of ◌==◌) (on content_of is_same_content))
+is_same_union =
+    eq_of_both (on unknown_rank ◌==◌)
+    (eq_of_both (on rtype_of ◌==◌) (on content_of is_same_content))
 
 -- by type number, then data by its fields before octets, then what they hold
 abbrev pub union_cmp : RecordData → RecordData → Ordering
-union_cmp = then_cmp (on rtype_of nat_cmp) (then_cmp (on unknown_rank nat_cmp) (on content_of content_cmp))
+union_cmp = then_cmp (on rtype_of nat_cmp)
+    (then_cmp (on unknown_rank nat_cmp) (on content_of content_cmp))
 
 -- the type with fixed fields under a type number
 abbrev row_of : ℕ → Row
@@ -120,7 +124,8 @@ same_held_ties (Service x) (Fields y) = refl
 same_held_ties (Service x) (Gateway y) = refl
 same_held_ties (Service x) (Service y) = svcb.same_svcb_ties x y
 
-same_held_fed : (rtype : ℕ) (x y : Content) → is_same_content x y ≡ true → held_fed rtype x ≡ held_fed rtype y
+same_held_fed : (rtype : ℕ) (x y : Content) → is_same_content x y ≡ true
+    → held_fed rtype x ≡ held_fed rtype y
 same_held_fed rtype (Octets x) (Octets y) is = ap (fed.slice fed.u8) ((bytes_decides x y).0 is)
 same_held_fed rtype (Octets x) (Fields y) is = absurd cc
 same_held_fed rtype (Octets x) (Gateway y) is = absurd cc
@@ -190,7 +195,9 @@ octets_total : IsTotalOrder (slice_cmp nat_cmp)
 octets_total = lists_total nat_cmp_total
 
 fields_total : IsTotalOrder fields.fields_cmp
-fields_total = then_total (on_total (λ (d : Data). d.numbers) octets_total) (on_total (λ (d : Data). d.last) octets_total)
+fields_total =
+    then_total (on_total (λ (d : Data). d.numbers) octets_total)
+    (on_total (λ (d : Data). d.last) octets_total)
 
 name_total : IsTotalOrder name_cmp
 name_total = on_total from_last (lists_total octets_total)
@@ -198,14 +205,16 @@ name_total = on_total from_last (lists_total octets_total)
 service_total : IsTotalOrder svcb.svcb_cmp
 service_total =
     then_total (on_total (λ (r : Record). r.priority) nat_cmp_total)
-    (then_total (on_total (λ (r : Record). r.labels) name_total) (on_total (λ (r : Record). wire r.pairs) octets_total))
+    (then_total (on_total (λ (r : Record). r.labels) name_total)
+        (on_total (λ (r : Record). wire r.pairs) octets_total))
 
 kinds_total : IsTotalOrder by_kinds
 kinds_total =
     then_total (on_total content_rank nat_cmp_total)
     (then_total (on_total octets_in (options_total octets_total))
     (then_total (on_total fields_in (options_total fields_total))
-    (then_total (on_total gateway_in (options_total ipseckey_total)) (on_total service_in (options_total service_total)))))
+    (then_total (on_total gateway_in (options_total ipseckey_total))
+        (on_total service_in (options_total service_total)))))
 
 held_total : IsTotalOrder content_cmp
 held_total = subst IsTotalOrder (λ i x y. same_order x y i) kinds_total
@@ -213,7 +222,8 @@ held_total = subst IsTotalOrder (λ i x y. same_order x y i) kinds_total
 -- ---- laws of data
 
 pub union_total : IsTotalOrder union_cmp
-union_total = then_total (on_total rtype_of nat_cmp_total) (then_total (on_total unknown_rank nat_cmp_total) (on_total content_of held_total))
+union_total = then_total (on_total rtype_of nat_cmp_total)
+    (then_total (on_total unknown_rank nat_cmp_total) (on_total content_of held_total))
 
 -- the order finds equal what is the same data
 pub same_union_ties : (x y : RecordData) → is_same_union x y ≡ eq_by_cmp union_cmp x y
@@ -225,7 +235,8 @@ same_union_ties x y =
       unsigned_tied (rtype_of x) (rtype_of y),
       unsigned_tied (unknown_rank x) (unknown_rank y),
       same_held_ties (content_of x) (content_of y),
-      swapped (unknown_rank x == unknown_rank y) (rtype_of x == rtype_of y) (is_same_content (content_of x) (content_of y)),
+      swapped (unknown_rank x == unknown_rank y) (rtype_of x == rtype_of y)
+          (is_same_content (content_of x) (content_of y)),
       tied_then u h,
       tied_then t (ordering_then u h),
     )
@@ -237,14 +248,18 @@ same_union_ties x y =
     swapped false false r = refl
 
 pub same_data_equivalence : IsEquivalence is_same_union
-same_data_equivalence = subst IsEquivalence (λ i x y. sym (same_union_ties x y) i) (eq_by_cmp_equiv union_total)
+same_data_equivalence =
+    subst IsEquivalence (λ i x y. sym (same_union_ties x y) i) (eq_by_cmp_equiv union_total)
 
 same_number : (a b : ℕ) → (a == b) ≡ true → a ≡ b
 same_number a b is = grind (arith, nat_tests)
 
 -- the same data feeds the same
-pub same_union_hash_input : (x y : RecordData) → is_same_union x y ≡ true → union_hash_input x ≡ union_hash_input y
+pub same_union_hash_input : (x y : RecordData) → is_same_union x y ≡ true
+    → union_hash_input x ≡ union_hash_input y
 same_union_hash_input x y is =
     let first = and_parts (unknown_rank x == unknown_rank y) _ is in
-    let second = and_parts (rtype_of x == rtype_of y) (is_same_content (content_of x) (content_of y)) first.1 in
-    cc (same_number (rtype_of x) (rtype_of y) second.0, same_held_fed (rtype_of x) (content_of x) (content_of y) second.1)
+    let second = and_parts (rtype_of x == rtype_of y)
+        (is_same_content (content_of x) (content_of y)) first.1 in
+    cc (same_number (rtype_of x) (rtype_of y) second.0, same_held_fed (rtype_of x) (content_of x)
+        (content_of y) second.1)

@@ -7,4 +7,6 @@ use Rattle.std.specs.Cmp.Lexicographic.{slice_cmp}
 -- first by an order, and then what stands behind the part against a rest
 abbrev pub ComparesFront : List ℕ → List ℕ → Ordering → List ℕ → Type 0
 ComparesFront part octets order rest =
-    (more : List ℕ) → slice_cmp nat_cmp (part ++ more) octets ≡ ordering_then order (slice_cmp nat_cmp more rest)
+    (more : List ℕ)
+        → slice_cmp nat_cmp (part ++ more) octets
+        ≡ ordering_then order (slice_cmp nat_cmp more rest)

@@ -40,10 +40,12 @@ inner_text Base16 false octets = encode_lower octets
 inner_text Base16 true octets = base16_text octets
 inner_text Base64 in_brackets octets = base64_text octets
 
-bare_at : (text : List ℕ) (i : ℕ) → list_all is_bare text ≡ true → i < length text → is_bare (get_or text i 0) ≡ true
+bare_at : (text : List ℕ) (i : ℕ) → list_all is_bare text ≡ true → i < length text
+    → is_bare (get_or text i 0) ≡ true
 bare_at [] i bare within = absurd (omega arith)
 bare_at (c ∷ text) zero bare within = (and_parts (is_bare c) (list_all is_bare text) bare).0
-bare_at (c ∷ text) (suc i) bare within = bare_at text i (and_parts (is_bare c) (list_all is_bare text) bare).1 (omega arith)
+bare_at (c ∷ text) (suc i) bare within =
+    bare_at text i (and_parts (is_bare c) (list_all is_bare text) bare).1 (omega arith)
 
 ArePlain-lower : (octets : List ℕ) → AreOctets octets → ArePlain (encode_lower octets)
 unfolding encode_with
@@ -54,31 +56,42 @@ ArePlain-lower (c ∷ octets) are =
       (bare_at lower_digits (c % 16) refl (omega arith), ArePlain-lower octets are.1),
     )
 
-inner_read : (encoding : Encoding) (in_brackets : Bool) (octets : List ℕ) → AreOctets octets → IsRead encoding (inner_text encoding in_brackets octets) octets
-inner_read Base16 false octets are = ap result_ok (decode_of-encode_lower octets (octet_at octets are))
+inner_read : (encoding : Encoding) (in_brackets : Bool) (octets : List ℕ) → AreOctets octets
+    → IsRead encoding (inner_text encoding in_brackets octets) octets
+inner_read Base16 false octets are =
+    ap result_ok (decode_of-encode_lower octets (octet_at octets are))
 inner_read Base16 true octets are = base16_again octets are
 inner_read Base64 in_brackets octets are = base64_again octets are
 
-inner_plain : (encoding : Encoding) (in_brackets : Bool) (octets : List ℕ) → AreOctets octets → ArePlain (inner_text encoding in_brackets octets)
+inner_plain : (encoding : Encoding) (in_brackets : Bool) (octets : List ℕ) → AreOctets octets
+    → ArePlain (inner_text encoding in_brackets octets)
 inner_plain Base16 false octets are = ArePlain-lower octets are
 inner_plain Base16 true octets are = ArePlain-base16 octets are
 inner_plain Base64 in_brackets octets are = ArePlain-base64 octets are
 
 -- its token is scanned
-rest_scanned : (encoding : Encoding) (text octets : List ℕ) (front : List (List Symbol)) → IsRead encoding text octets
-    → rest_encoded encoding (front ++ text_tokens text) (length front) ≡ done octets (length (front ++ text_tokens text))
-rest_scanned Base16 text octets front is = rest_taken base16_of BadBase16 front (text_tokens text) octets (ap base16_of (octets-text_tokens text) ∙ is)
-rest_scanned Base64 text octets front is = rest_taken base64_of BadBase64 front (text_tokens text) octets (ap base64_of (octets-text_tokens text) ∙ is)
+rest_scanned : (encoding : Encoding) (text octets : List ℕ) (front : List (List Symbol))
+    → IsRead encoding text octets
+    → rest_encoded encoding (front ++ text_tokens text) (length front)
+        ≡ done octets (length (front ++ text_tokens text))
+rest_scanned Base16 text octets front is =
+    rest_taken base16_of BadBase16 front (text_tokens text) octets
+    (ap base16_of (octets-text_tokens text) ∙ is)
+rest_scanned Base64 text octets front is =
+    rest_taken base64_of BadBase64 front (text_tokens text) octets
+    (ap base64_of (octets-text_tokens text) ∙ is)
 
 -- its text has that token
 last_text : (encoding : Encoding) (in_brackets : Bool) (octets : List ℕ) → AreOctets octets
-    → EntryText 0 (last_printed encoding in_brackets octets) (text_tokens (inner_text encoding in_brackets octets))
+    → EntryText 0 (last_printed encoding in_brackets octets)
+        (text_tokens (inner_text encoding in_brackets octets))
 last_text Base16 false octets are = bare_text (encode_lower octets) (ArePlain-lower octets are)
 last_text Base16 true octets are = bracketed_text (base16_text octets) (ArePlain-base16 octets are)
 last_text Base64 false octets are = bare_text (base64_text octets) (ArePlain-base64 octets are)
 last_text Base64 true octets are = bracketed_text (base64_text octets) (ArePlain-base64 octets are)
 
-encoded_is : (encoding : Encoding) (octets : List ℕ) → inner_text encoding true octets ≡ last_field_text encoding octets
+encoded_is : (encoding : Encoding) (octets : List ℕ)
+    → inner_text encoding true octets ≡ last_field_text encoding octets
 encoded_is Base16 octets = refl
 encoded_is Base64 octets = refl
 
@@ -89,16 +102,21 @@ abbrev data_tokens : Data → List ℕ → List (List Symbol)
 data_tokens found text = number_tokens found.numbers ++ text_tokens text
 
 -- they are scanned as it
-data_scanned : (row : Row) (found : Data) (text : List ℕ) → AreSmall row.fields → IsAssociationData row found → IsRead row.encoding text found.last
+data_scanned : (row : Row) (found : Data) (text : List ℕ) → AreSmall row.fields
+    → IsAssociationData row found → IsRead row.encoding text found.last
     → scan_data row (data_tokens found text) 0 ≡ done found (length (data_tokens found text))
 data_scanned row found text small is read =
     let tokens = data_tokens found text in
     let front = number_tokens found.numbers in
-    let onward : List ℕ → ℕ → Scanned Data = λ octets end. within_length row (record { numbers = found.numbers; last = octets }) tokens end in
-    let place : 0 + length found.numbers ≡ length front = omega (arith, length-map found.numbers number_token) in
+    let onward : List ℕ → ℕ → Scanned Data =
+        λ octets end. within_length row (record { numbers = found.numbers; last = octets }) tokens
+        end in
+    let place : 0 + length found.numbers ≡ length front =
+        omega (arith, length-map found.numbers number_token) in
     numbers_scanned row.fields found.numbers small is.numbers (scan_last row) [] (text_tokens text)
     ∙ ap (λ (at : ℕ). scan_last row found.numbers tokens at) place
-    ∙ ap (λ (s : Scanned (List ℕ)). scan_then s onward) (rest_scanned row.encoding text found.last front read)
+    ∙ ap (λ (s : Scanned (List ℕ)). scan_then s onward)
+    (rest_scanned row.encoding text found.last front read)
     ∙ within (data_len row found) (length tokens) LongRecord found is.fits
 
 pub data_text_again : FieldsTextReadBack
@@ -107,25 +125,34 @@ data_text_again row is_row found is =
     let last = last_printed row.encoding row.in_brackets found.last in
     let small = each_small row.fields found.numbers is_row.small is.numbers in
     text_of (scan_data row) (fields_printed row found) found (data_tokens found text)
-    (numbers_on found.numbers last (text_tokens text) small (last_text row.encoding row.in_brackets found.last is.octets))
-    (data_scanned row found text is_row.small is (inner_read row.encoding row.in_brackets found.last is.octets))
+    (numbers_on found.numbers last (text_tokens text) small
+        (last_text row.encoding row.in_brackets found.last is.octets))
+    (data_scanned row found text is_row.small is
+        (inner_read row.encoding row.in_brackets found.last is.octets))
 
 -- ---- layouts
 
 data_front : (row : Row) (found : Data) → AreSmall row.fields → IsAssociationData row found
-    → AreTokenTexts (data_document row found) (data_tokens found (last_field_text row.encoding found.last))
+    → AreTokenTexts (data_document row found)
+        (data_tokens found (last_field_text row.encoding found.last))
 data_front row found small is =
     let text = last_field_text row.encoding found.last in
-    let plain = subst ArePlain (encoded_is row.encoding found.last) (inner_plain row.encoding true found.last is.octets) in
+    let plain = subst ArePlain (encoded_is row.encoding found.last)
+        (inner_plain row.encoding true found.last is.octets) in
     let items = numbers_items row.fields found.numbers in
-    subst (λ (all : List _). AreTokenTexts (BlockBegin ∷ all) (data_tokens found text)) (sym (assoc items (Token text ∷ []) (BlockEnd ∷ [])))
-    (numbers_front row.fields found.numbers (Token text ∷ BlockEnd ∷ []) (text_tokens text) is.numbers (each_small row.fields found.numbers small is.numbers) (last_front text plain))
+    subst (λ (all : List _). AreTokenTexts (BlockBegin ∷ all) (data_tokens found text))
+        (sym (assoc items (Token text ∷ []) (BlockEnd ∷ [])))
+    (numbers_front row.fields found.numbers (Token text ∷ BlockEnd ∷ [])
+        (text_tokens text) is.numbers (each_small row.fields found.numbers small is.numbers)
+        (last_front text plain))
 
 pub data_layout_again : FieldsLayoutReadBack
 data_layout_again row is_row found is kind =
     let text = last_field_text row.encoding found.last in
-    let read = subst (λ t. IsRead row.encoding t found.last) (encoded_is row.encoding found.last) (inner_read row.encoding true found.last is.octets) in
+    let read = subst (λ t. IsRead row.encoding t found.last) (encoded_is row.encoding found.last)
+        (inner_read row.encoding true found.last is.octets) in
     let tokens = data_tokens found text in
     text_of (scan_data row) _ found tokens
-    (layout_splits kind (data_document row found) tokens (document-data row is_row.documents found) (data_front row found is_row.small is))
+    (layout_splits kind (data_document row found) tokens (document-data row is_row.documents found)
+        (data_front row found is_row.small is))
     (data_scanned row found text is_row.small is read)

@@ -40,41 +40,54 @@ some_text (c ∷ text) token is = omega arith
 -- a gateway's text is that of a token which is scanned as the gateway
 record IsGatewayToken (gateway : Gateway) (token : List Symbol) : Type 0 where
   text : IsTokenText (gateway_text gateway) token
-  scanned : (front behind : List (List Symbol)) → scan_gateway (gateway_type gateway) (front ++ token ∷ behind) (length front) ≡ done gateway (length front + 1)
+  scanned : (front behind : List (List Symbol))
+      → scan_gateway (gateway_type gateway) (front ++ token ∷ behind) (length front)
+      ≡ done gateway (length front + 1)
 
-as_gateway : {V : Type 0} (gateway : V → Gateway) (scanned : Scanned V) (x : V) (end : ℕ) → scanned ≡ done x end
+as_gateway : {V : Type 0} (gateway : V → Gateway) (scanned : Scanned V) (x : V) (end : ℕ)
+    → scanned ≡ done x end
     → scan_then scanned (λ found after. done (gateway found) after) ≡ done (gateway x) end
-as_gateway gateway scanned x end is = ap (λ s. scan_then s (λ found after. done (gateway found) after)) is
+as_gateway gateway scanned x end is =
+    ap (λ s. scan_then s (λ found after. done (gateway found) after)) is
 
-address_means : (read : List ℕ → Option (List ℕ)) (token : List Symbol) (text octets : List ℕ) → octets_of token ≡ text → read text ≡ Some octets
+address_means : (read : List ℕ → Option (List ℕ)) (token : List Symbol) (text octets : List ℕ)
+    → octets_of token ≡ text → read text ≡ Some octets
     → by_octets read BadAddress token ≡ Ok octets
-address_means read token text octets is means = ap (λ (t : List ℕ). ok_or (read t) BadAddress) is ∙ ap (λ (r : Option (List ℕ)). ok_or r BadAddress) means
+address_means read token text octets is means =
+    ap (λ (t : List ℕ). ok_or (read t) BadAddress) is
+    ∙ ap (λ (r : Option (List ℕ)). ok_or r BadAddress) means
 
-gateway_token : (gateway : Gateway) → IsGateway gateway → (token : List Symbol) × IsGatewayToken gateway token
+gateway_token : (gateway : Gateway) → IsGateway gateway → (token : List Symbol)
+    × IsGatewayToken gateway token
 gateway_token NoGateway is =
     let token = plain_token (codes ".") in (
       token,
       record {
         text = token_text-plain (codes ".") (omega arith) (refl, tt);
-        scanned = λ front behind. one_taken (by_octets no_gateway_of WrongGateway) front behind token NoGateway refl;
+        scanned = λ front behind. one_taken (by_octets no_gateway_of WrongGateway) front behind
+            token NoGateway refl;
       },
     )
 gateway_token (Ipv4Gateway octets) is =
     let own = ipv4_token octets is.0 is.1 in
-    let means = address_means ipv4_of own.0 (ipv4_text octets) octets own.2 (ipv4_again octets is.0 is.1) in (
+    let means = address_means ipv4_of own.0 (ipv4_text octets) octets own.2
+        (ipv4_again octets is.0 is.1) in (
       own.0,
       record {
         text = own.1;
-        scanned = λ front behind. as_gateway Ipv4Gateway _ octets (length front + 1) (one_taken (by_octets ipv4_of BadAddress) front behind own.0 octets means);
+        scanned = λ front behind. as_gateway Ipv4Gateway _ octets (length front + 1)
+            (one_taken (by_octets ipv4_of BadAddress) front behind own.0 octets means);
       },
     )
 gateway_token (Ipv6Gateway octets) is =
     let own = ipv6_token octets is.0 is.1 in
-    let means = address_means ipv6_of own.0 (ipv6_text octets) octets own.2 (ipv6_again octets is.0 is.1) in (
+    let means = address_means ipv6_of own.0 (ipv6_text octets) octets own.2
+        (ipv6_again octets is.0 is.1) in (
       own.0,
       record {
         text = own.1;
-        scanned = λ front behind. as_gateway Ipv6Gateway _ octets (length front + 1) (one_taken (by_octets ipv6_of BadAddress) front behind own.0 octets means);
+        scanned = λ front behind. as_gateway Ipv6Gateway _ octets (length front + 1)
+            (one_taken (by_octets ipv6_of BadAddress) front behind own.0 octets means);
       },
     )
 gateway_token (NameGateway labels) is =
@@ -83,7 +96,8 @@ gateway_token (NameGateway labels) is =
       own.0,
       record {
         text = own.1;
-        scanned = λ front behind. as_gateway NameGateway _ labels (length front + 1) (one_taken by_name front behind own.0 labels means);
+        scanned = λ front behind. as_gateway NameGateway _ labels (length front + 1)
+            (one_taken by_name front behind own.0 labels means);
       },
     )
 
@@ -101,33 +115,43 @@ module _ (found : Ipseckey) (token : List Symbol) where
 
   abbrev tokens_of_data : List (List Symbol)
   tokens_of_data =
-      number_token found.precedence ∷ number_token (gateway_type found.gateway) ∷ number_token found.algorithm ∷ token ∷ key_tokens
+      number_token found.precedence ∷ number_token (gateway_type found.gateway)
+          ∷ number_token found.algorithm ∷ token ∷ key_tokens
 
 module _ (tokens : List (List Symbol)) where
   -- what follows each part of a scan
   abbrev behind_gateway : ℕ → ℕ → Gateway → ℕ → Scanned Ipseckey
   behind_gateway precedence algorithm gateway after =
       scan_then (rest_base64 tokens after) (λ key end.
-      complete_ipseckey (record { precedence = precedence; algorithm = algorithm; gateway = gateway; key = key }) tokens end)
+      complete_ipseckey
+          (record { precedence = precedence; algorithm = algorithm; gateway = gateway; key = key })
+          tokens end)
 
   abbrev behind_algorithm : ℕ → ℕ → ℕ → ℕ → Scanned Ipseckey
-  behind_algorithm precedence type algorithm after = scan_then (scan_gateway type tokens after) (behind_gateway precedence algorithm)
+  behind_algorithm precedence type algorithm after =
+      scan_then (scan_gateway type tokens after) (behind_gateway precedence algorithm)
 
   abbrev behind_type : ℕ → ℕ → ℕ → Scanned Ipseckey
-  behind_type precedence type after = scan_then (number_below 256 tokens after) (behind_algorithm precedence type)
+  behind_type precedence type after =
+      scan_then (number_below 256 tokens after) (behind_algorithm precedence type)
 
   abbrev behind_precedence : ℕ → ℕ → Scanned Ipseckey
-  behind_precedence precedence after = scan_then (number_below 256 tokens after) (behind_type precedence)
+  behind_precedence precedence after =
+      scan_then (number_below 256 tokens after) (behind_type precedence)
 
-completed : (found : Ipseckey) (tokens : List (List Symbol)) (end : ℕ) → IsIpseckey found → lacks_key found.algorithm found.key ≡ false
+completed : (found : Ipseckey) (tokens : List (List Symbol)) (end : ℕ) → IsIpseckey found
+    → lacks_key found.algorithm found.key ≡ false
     → complete_ipseckey found tokens end ≡ done found end
 completed found tokens end is has =
-    ap (λ (lacks : Bool). cond lacks (refused MissingKey end) (cond (nat_lt 65535 (ipseckey_len found)) (refused LongRecord end) (done found end))) has
+    ap (λ (lacks : Bool). cond lacks (refused MissingKey end)
+        (cond (nat_lt 65535 (ipseckey_len found)) (refused LongRecord end) (done found end))) has
     ∙ within (ipseckey_len found) end LongRecord found is.fits
 
 -- they are scanned as it
-data_scanned : (found : Ipseckey) (token : List Symbol) → IsGatewayToken found.gateway token → IsIpseckey found → lacks_key found.algorithm found.key ≡ false
-    → scan_ipseckey (tokens_of_data found token) 0 ≡ done found (length (tokens_of_data found token))
+data_scanned : (found : Ipseckey) (token : List Symbol) → IsGatewayToken found.gateway token
+    → IsIpseckey found → lacks_key found.algorithm found.key ≡ false
+    → scan_ipseckey (tokens_of_data found token) 0
+        ≡ done found (length (tokens_of_data found token))
 data_scanned found token gateway is has =
     let p = found.precedence in
     let t = gateway_type found.gateway in
@@ -140,13 +164,22 @@ data_scanned found token gateway is has =
     let first : List (List Symbol) = number_token p ∷ [] in
     let second : List (List Symbol) = number_token p ∷ number_token t ∷ [] in
     let third : List (List Symbol) = number_token p ∷ number_token t ∷ number_token a ∷ [] in
-    let fourth : List (List Symbol) = number_token p ∷ number_token t ∷ number_token a ∷ token ∷ [] in
-    ap (λ (s : Scanned ℕ). scan_then s (behind_precedence tokens)) (number_scanned 256 p [] (number_token t ∷ number_token a ∷ token ∷ rest) small (omega arith))
-    ∙ ap (λ (s : Scanned ℕ). scan_then s (behind_type tokens p)) (number_scanned 256 t first (number_token a ∷ token ∷ rest) (omega arith) (omega arith))
-    ∙ ap (λ (s : Scanned ℕ). scan_then s (behind_algorithm tokens p t)) (number_scanned 256 a second (token ∷ rest) small_too (omega arith))
-    ∙ ap (λ (s : Scanned Gateway). scan_then s (behind_gateway tokens p a)) (gateway.scanned third rest)
-    ∙ ap (λ (s : Scanned (List ℕ)). scan_then s (λ key end. complete_ipseckey (record { precedence = p; algorithm = a; gateway = found.gateway; key = key }) tokens end))
-    (rest_taken base64_of BadBase64 fourth rest found.key (ap base64_of (octets-text_tokens (base64_text found.key)) ∙ base64_again found.key is.key))
+    let fourth : List (List Symbol) = number_token p ∷ number_token t ∷ number_token a ∷ token ∷ []
+        in
+    ap (λ (s : Scanned ℕ). scan_then s (behind_precedence tokens))
+        (number_scanned 256 p [] (number_token t ∷ number_token a ∷ token ∷ rest) small
+        (omega arith))
+    ∙ ap (λ (s : Scanned ℕ). scan_then s (behind_type tokens p))
+    (number_scanned 256 t first (number_token a ∷ token ∷ rest) (omega arith) (omega arith))
+    ∙ ap (λ (s : Scanned ℕ). scan_then s (behind_algorithm tokens p t))
+    (number_scanned 256 a second (token ∷ rest) small_too (omega arith))
+    ∙ ap (λ (s : Scanned Gateway). scan_then s (behind_gateway tokens p a))
+    (gateway.scanned third rest)
+    ∙ ap (λ (s : Scanned (List ℕ)). scan_then s
+    (λ key end. complete_ipseckey
+    (record { precedence = p; algorithm = a; gateway = found.gateway; key = key }) tokens end))
+    (rest_taken base64_of BadBase64 fourth rest found.key
+        (ap base64_of (octets-text_tokens (base64_text found.key)) ∙ base64_again found.key is.key))
     ∙ completed found tokens (length tokens) is has
 
 -- ---- printed
@@ -163,15 +196,19 @@ ipseckey_text_again found is has =
     let small_too = is.algorithm in
     let numbers = found.precedence ∷ gateway_type found.gateway ∷ found.algorithm ∷ [] in
     let behind = token_on 0 (32 ∷ last) rest text token gateway.1.text
-    (blank_on 0 last rest 32 refl (bracketed_text (base64_text found.key) (ArePlain-base64 found.key is.key))) in
+    (blank_on 0 last rest 32 refl
+        (bracketed_text (base64_text found.key) (ArePlain-base64 found.key is.key))) in
     text_of scan_ipseckey (ipseckey_printed found) found (tokens_of_data found token)
-    (subst (λ (t : List ℕ). HasTokens (numbers_printed numbers ++ t) (tokens_of_data found token)) (sym (assoc text (codes " ") last))
-    (numbers_on numbers (text ++ 32 ∷ last) (token ∷ rest) (omega arith, (omega arith, (omega arith, tt))) behind))
+    (subst (λ (t : List ℕ). HasTokens (numbers_printed numbers ++ t) (tokens_of_data found token))
+        (sym (assoc text (codes " ") last))
+    (numbers_on numbers (text ++ 32 ∷ last) (token ∷ rest)
+        (omega arith, (omega arith, (omega arith, tt))) behind))
     (data_scanned found token gateway.1 is has)
 
 -- ---- laid out
 
-data_front : (found : Ipseckey) (token : List Symbol) → IsGatewayToken found.gateway token → IsIpseckey found
+data_front : (found : Ipseckey) (token : List Symbol) → IsGatewayToken found.gateway token
+    → IsIpseckey found
     → AreTokenTexts (ipseckey_document found) (tokens_of_data found token)
 data_front found token gateway is =
     let text = gateway_text found.gateway in
@@ -181,23 +218,34 @@ data_front found token gateway is =
     let small_too = is.algorithm in
     let last : List Item = Token (base64_text found.key) ∷ BlockEnd ∷ [] in
     let gateway_on : List Item = Token text ∷ Comment (codes "gateway") ∷ last in
-    let algorithm_on : List Item = Token (decimal found.algorithm) ∷ Comment (algorithm_comment found.algorithm) ∷ Comment (codes "algorithm") ∷ gateway_on in
-    let type_on : List Item = Token (decimal (gateway_type found.gateway)) ∷ Comment (type_comment found.gateway) ∷ Comment (codes "gateway type") ∷ algorithm_on in
+    let algorithm_on : List Item =
+        Token (decimal found.algorithm) ∷ Comment (algorithm_comment found.algorithm)
+        ∷ Comment (codes "algorithm") ∷ gateway_on in
+    let type_on : List Item =
+        Token (decimal (gateway_type found.gateway)) ∷ Comment (type_comment found.gateway)
+        ∷ Comment (codes "gateway type") ∷ algorithm_on in
     let key_is = last_front (base64_text found.key) (ArePlain-base64 found.key is.key) in
     let gateway_is : AreTokenTexts gateway_on (token ∷ rest) =
-    token_front text token (Comment (codes "gateway") ∷ last) rest (some_text text token gateway.text) gateway.text key_is in
+    token_front text token (Comment (codes "gateway") ∷ last) rest
+        (some_text text token gateway.text) gateway.text key_is in
     let algorithm_is : AreTokenTexts algorithm_on (number_token found.algorithm ∷ token ∷ rest) =
-    number_front found.algorithm (Comment (algorithm_comment found.algorithm) ∷ Comment (codes "algorithm") ∷ gateway_on) (token ∷ rest) (omega arith) gateway_is in
-    let type_is : AreTokenTexts type_on (number_token (gateway_type found.gateway) ∷ number_token found.algorithm ∷ token ∷ rest) =
-    number_front (gateway_type found.gateway) (Comment (type_comment found.gateway) ∷ Comment (codes "gateway type") ∷ algorithm_on)
+    number_front found.algorithm
+        (Comment (algorithm_comment found.algorithm) ∷ Comment (codes "algorithm") ∷ gateway_on)
+        (token ∷ rest) (omega arith) gateway_is in
+    let type_is : AreTokenTexts type_on
+        (number_token (gateway_type found.gateway) ∷ number_token found.algorithm ∷ token ∷ rest) =
+    number_front (gateway_type found.gateway)
+        (Comment (type_comment found.gateway) ∷ Comment (codes "gateway type") ∷ algorithm_on)
     (number_token found.algorithm ∷ token ∷ rest) (omega arith) algorithm_is in
     number_front found.precedence (Comment (codes "precedence") ∷ type_on)
-    (number_token (gateway_type found.gateway) ∷ number_token found.algorithm ∷ token ∷ rest) (omega arith) type_is
+    (number_token (gateway_type found.gateway) ∷ number_token found.algorithm ∷ token ∷ rest)
+        (omega arith) type_is
 
 pub ipseckey_layout_again : IpseckeyLayoutReadBack
 ipseckey_layout_again found is has kind =
     let gateway = gateway_token found.gateway is.gateway in
     let tokens = tokens_of_data found gateway.0 in
     text_of scan_ipseckey _ found tokens
-    (layout_splits kind (ipseckey_document found) tokens (document-ipseckey found) (data_front found gateway.0 gateway.1 is))
+    (layout_splits kind (ipseckey_document found) tokens (document-ipseckey found)
+        (data_front found gateway.0 gateway.1 is))
     (data_scanned found gateway.0 gateway.1 is has)

@@ -43,25 +43,32 @@ number_again (suc k) n fits =
     let octet : byte_at k n ≡ n / m = at_place k n ∙ omega arith in
     let lower : number_of_octets (bytes_high_first k n) ≡ n % m =
     ap (λ (a : ℕ). number_of_octets (bytes_high_first k a)) (sym split)
-    ∙ ap number_of_octets (octets-above k (n / m) (n % m)) ∙ number_again k (n % m) (mod_below n m (unit_pos k)) in
-    ap₂ (λ (a b : ℕ). a + b) (ap₂ (λ (a b : ℕ). a * 256 ^ b) octet (length-octets k n)) lower ∙ split
+    ∙ ap number_of_octets (octets-above k (n / m) (n % m))
+    ∙ number_again k (n % m) (mod_below n m (unit_pos k)) in
+    ap₂ (λ (a b : ℕ). a + b) (ap₂ (λ (a b : ℕ). a * 256 ^ b) octet (length-octets k n)) lower
+        ∙ split
 
 below : (o m r : ℕ) → o < 256 → r < m → o * m + r < 256 * m
 below o m r lo lr = grind arith
 
 -- octets are below the power of their count
-pub number_below : (octets : List ℕ) → AreOctets octets → number_of_octets octets < 256 ^ length octets
+pub number_below : (octets : List ℕ) → AreOctets octets
+    → number_of_octets octets < 256 ^ length octets
 number_below [] are = omega arith
 number_below (o ∷ octets) are =
-    omega (arith, below o (256 ^ length octets) (number_of_octets octets) are.0 (number_below octets are.1), pow-suc 256 (length octets))
+    omega (arith, below o (256 ^ length octets) (number_of_octets octets) are.0
+        (number_below octets are.1), pow-suc 256 (length octets))
 
 -- and they are those of the number that they are read as
-pub octets_again : (octets : List ℕ) → AreOctets octets → bytes_high_first (length octets) (number_of_octets octets) ≡ octets
+pub octets_again : (octets : List ℕ) → AreOctets octets
+    → bytes_high_first (length octets) (number_of_octets octets) ≡ octets
 octets_again [] are = refl
 octets_again (o ∷ octets) are =
     let k = length octets in
     let n = number_of_octets octets in
     let fits : o < 256 = are.0 in
     let octet : byte_at k (o * 256 ^ k + n) ≡ o =
-    at_place k (o * 256 ^ k + n) ∙ ap (λ (a : ℕ). a % 256) (div-mul-add o (256 ^ k) n (number_below octets are.1)) ∙ omega arith in
+    at_place k (o * 256 ^ k + n)
+        ∙ ap (λ (a : ℕ). a % 256) (div-mul-add o (256 ^ k) n (number_below octets are.1))
+        ∙ omega arith in
     ap₂ (λ (a : ℕ) (rest : List ℕ). a ∷ rest) octet (octets-above k o n ∙ octets_again octets are.1)

@@ -1,5 +1,5 @@
--- What the text of fields is scanned as under the number of its type. Data that begins with a number doesn't begin with
--- the marker.
+-- What the text of fields is scanned as under the number of its type. Data that begins with a
+-- number doesn't begin with the marker.
 use Rattle.std.proofs.Common.{◌≡◌, ℕ, ◌^◌, true, false, cond, List, [], ◌∷◌, length, Ok, Err, refl, sym, inl, inr, ap, ◌∙◌, arith}
 use Rattle.std.proofs.lemmas.Bool.{cases_eq}
 use Rattle.std.proofs.lemmas.Bool.Decides.{nat_tests}
@@ -24,47 +24,64 @@ not_below n = grind (arith, nat_tests)
 answer_not_both : {V : Type 0} (fault : ScanError) (found : V) → Err fault ≡ Ok found → ⊥
 answer_not_both fault found is = absurd cc
 
-not_both : {V : Type 0} (fault : ScanError) (place : ℕ) (found : V) (end : ℕ) → refused fault place ≡ done found end → ⊥
-not_both {V} fault place found end is = answer_not_both fault found (ap (λ (scanned : Scanned V). scanned.outcome) is)
+not_both : {V : Type 0} (fault : ScanError) (place : ℕ) (found : V) (end : ℕ)
+    → refused fault place ≡ done found end → ⊥
+not_both {V} fault place found end is =
+    answer_not_both fault found (ap (λ (scanned : Scanned V). scanned.outcome) is)
 
 -- a number is not spelled by `#`
-pub number_unmarked : {V : Type 0} (bound : ℕ) (next : ℕ → ℕ → Scanned V) (tokens : List (List Symbol)) (found : V) (end : ℕ)
+pub number_unmarked : {V : Type 0} (bound : ℕ) (next : ℕ → ℕ → Scanned V)
+    (tokens : List (List Symbol)) (found : V) (end : ℕ)
     → scan_then (number_below bound tokens 0) next ≡ done found end → is_marked tokens 0 ≡ false
 number_unmarked bound next [] found end is = refl
 number_unmarked bound next ([] ∷ tokens) found end is = refl
-number_unmarked {V} bound next ((symbol ∷ []) ∷ tokens) found end is = elim (cases_eq symbol.octet 35) [
+number_unmarked {V} bound next ((symbol ∷ []) ∷ tokens) found end is =
+    elim (cases_eq symbol.octet 35) [
   | inl marks ↦
-      let here : scan_then (number_below bound ((symbol ∷ []) ∷ tokens) 0) next ≡ refused BadNumber 0 =
-      ap (λ octet. scan_then (at_token 0 (ok_or (spelled_number bound (octet ∷ [])) BadNumber)) next) marks in
+      let here : scan_then (number_below bound ((symbol ∷ []) ∷ tokens) 0) next
+          ≡ refused BadNumber 0 =
+      ap (λ octet. scan_then (at_token 0 (ok_or (spelled_number bound (octet ∷ [])) BadNumber))
+          next) marks in
       absurd (not_both BadNumber 0 found end (sym here ∙ is))
   | inr other ↦ grind (arith, nat_tests)
 ]
 number_unmarked bound next ((symbol ∷ other ∷ symbols) ∷ tokens) found end is = refl
 
 -- fields the first of which has a number
-pub numbers_unmarked : {V : Type 0} (fields : List Field) (next : List ℕ → Scanning V) (tokens : List (List Symbol)) (found : V) (end : ℕ)
-    → nat_lt 0 (length fields) ≡ true → numbers_then fields next tokens 0 ≡ done found end → is_marked tokens 0 ≡ false
+pub numbers_unmarked : {V : Type 0} (fields : List Field) (next : List ℕ → Scanning V)
+    (tokens : List (List Symbol)) (found : V) (end : ℕ)
+    → nat_lt 0 (length fields) ≡ true → numbers_then fields next tokens 0 ≡ done found end
+        → is_marked tokens 0 ≡ false
 numbers_unmarked [] next tokens found end some is = absurd cc
 numbers_unmarked (field ∷ fields) next tokens found end some is =
-    number_unmarked (256 ^ field.width) (λ n after. numbers_then fields (λ numbers. next (n ∷ numbers)) tokens after) tokens found end is
+    number_unmarked (256 ^ field.width)
+        (λ n after. numbers_then fields (λ numbers. next (n ∷ numbers)) tokens after) tokens found
+        end is
 
 -- where the type with a number has fields of its own
 module _ {V : Type 0} (rtype : ℕ) (type : V → RecordData) (scanning : Scanning V)
-    (fields : (tokens : List (List Symbol)) → scan_fields rtype tokens 0 ≡ scan_as type scanning tokens 0) where
-  under_number : (tokens : List (List Symbol)) (found : V) → is_marked tokens 0 ≡ false → scanning tokens 0 ≡ done found (length tokens)
+    (fields : (tokens : List (List Symbol))
+        → scan_fields rtype tokens 0 ≡ scan_as type scanning tokens 0) where
+  under_number : (tokens : List (List Symbol)) (found : V) → is_marked tokens 0 ≡ false
+      → scanning tokens 0 ≡ done found (length tokens)
       → union_scan rtype tokens 0 ≡ done (type found) (length tokens)
   under_number tokens found unmarked scans =
       let any : scan_any rtype tokens 0 ≡ done (type found) (length tokens) =
-      ap (λ marked. cond marked (scan_as (octets_under rtype) unknown_data tokens 1) (scan_fields rtype tokens 0)) unmarked
-      ∙ fields tokens ∙ ap (λ (first : Scanned V). scan_then first (λ x after. done (type x) after)) scans in
+      ap (λ marked. cond marked (scan_as (octets_under rtype) unknown_data tokens 1)
+          (scan_fields rtype tokens 0)) unmarked
+      ∙ fields tokens
+      ∙ ap (λ (first : Scanned V). scan_then first (λ x after. done (type x) after)) scans in
       ap (λ (first : Scanned RecordData). scan_then first (λ x end. at_end x tokens end)) any
-      ∙ ap (λ left. cond left (refused TrailingTokens (length tokens)) (done (type found) (length tokens))) (not_below (length tokens))
+      ∙ ap (λ left. cond left (refused TrailingTokens (length tokens))
+      (done (type found) (length tokens))) (not_below (length tokens))
 
   -- the text of fields, where its tokens don't begin with the marker
   pub text_under : (text : List ℕ) (found : V) → IsScannedAs scanning text found
-      → ((tokens : List (List Symbol)) → HasTokens text tokens → scanning tokens 0 ≡ done found (length tokens) → is_marked tokens 0 ≡ false)
+      → ((tokens : List (List Symbol)) → HasTokens text tokens
+          → scanning tokens 0 ≡ done found (length tokens) → is_marked tokens 0 ≡ false)
       → IsScannedAs (union_scan rtype) text (type found)
   text_under text found is unmarked = record {
     has = is.has;
-    scanned = λ tokens are. under_number tokens found (unmarked tokens are (is.scanned tokens are)) (is.scanned tokens are);
+    scanned = λ tokens are. under_number tokens found (unmarked tokens are (is.scanned tokens are))
+        (is.scanned tokens are);
   }

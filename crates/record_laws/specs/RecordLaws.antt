@@ -22,12 +22,15 @@ use Rattle.record_spec.specs.IpseckeyTexts.{scan_ipseckey, ipseckey_printed, ips
 
 -- data that is composed is read, where its last field is long enough
 abbrev pub FieldsReadBack : Type 0
-FieldsReadBack = (row : Row) (found : Data) → IsAssociationData row found → row.least ≤ length found.last
+FieldsReadBack = (row : Row) (found : Data) → IsAssociationData row found
+    → row.least ≤ length found.last
     → read_data row (data_wire row found) ≡ Ok found
 
--- what is read is data, whose last field is long enough, and it is composed to the octets that were read
+-- what is read is data, whose last field is long enough, and it is composed to the octets that were
+-- read
 abbrev pub FieldsComposedBack : Type 0
-FieldsComposedBack = (row : Row) (octets : List ℕ) (found : Data) → AreOctets octets → read_data row octets ≡ Ok found
+FieldsComposedBack = (row : Row) (octets : List ℕ) (found : Data) → AreOctets octets
+    → read_data row octets ≡ Ok found
     → IsAssociationData row found × (row.least ≤ length found.last) × (data_wire row found ≡ octets)
 
 -- ---- texts
@@ -52,14 +55,18 @@ pub record TypesAreRows : Type 0 where
   pub openpgpkey_is : IsLawfulRow openpgpkey
 
 -- a text has tokens, and those that it has are scanned as this, all of them taken
-pub record IsScannedAs {V : Type 0} (scanning : Scanning V) (text : List ℕ) (found : V) : Type 0 where
+pub record IsScannedAs {V : Type 0} (scanning : Scanning V) (text : List ℕ)
+    (found : V) : Type 0 where
   pub has : (tokens : List (List Symbol)) × HasTokens text tokens
-  pub scanned : (tokens : List (List Symbol)) → HasTokens text tokens → scanning tokens 0 ≡ done found (length tokens)
+  pub scanned : (tokens : List (List Symbol)) → HasTokens text tokens
+      → scanning tokens 0 ≡ done found (length tokens)
 
 -- what is scanned is data, and all tokens are taken
 abbrev pub ScannedIsData : Type 0
-ScannedIsData = (row : Row) (tokens : List (List Symbol)) (place end : ℕ) (found : Data) → AreOctets (flat_map octets_of tokens)
-    → scan_data row tokens place ≡ done found end → IsAssociationData row found × (end ≡ length tokens)
+ScannedIsData = (row : Row) (tokens : List (List Symbol)) (place end : ℕ) (found : Data)
+    → AreOctets (flat_map octets_of tokens)
+    → scan_data row tokens place ≡ done found end → IsAssociationData row found
+        × (end ≡ length tokens)
 
 -- data that is printed is scanned
 abbrev pub FieldsTextReadBack : Type 0
@@ -68,14 +75,16 @@ FieldsTextReadBack = (row : Row) → IsLawfulRow row → (found : Data) → IsAs
 
 -- and so is data that is laid out, in each layout
 abbrev pub FieldsLayoutReadBack : Type 0
-FieldsLayoutReadBack = (row : Row) → IsLawfulRow row → (found : Data) → IsAssociationData row found → (kind : DisplayKind)
+FieldsLayoutReadBack = (row : Row) → IsLawfulRow row → (found : Data) → IsAssociationData row found
+    → (kind : DisplayKind)
     → IsScannedAs (scan_data row) (laid_out_text kind (data_document row found)) found
 
 -- ---- IPSECKEY
 
 -- Data that is composed is read, whatever stands before and behind it, where no key is missing.
 abbrev pub IpseckeyReadBack : Type 0
-IpseckeyReadBack = (found : Ipseckey) (front behind : List ℕ) → IsIpseckey found → lacks_key found.algorithm found.key ≡ false
+IpseckeyReadBack = (found : Ipseckey) (front behind : List ℕ) → IsIpseckey found
+    → lacks_key found.algorithm found.key ≡ false
     → ipseckey_read (record {
       message = front ++ (ipseckey_wire found ++ behind);
       end = length front + length (ipseckey_wire found);
@@ -83,7 +92,8 @@ IpseckeyReadBack = (found : Ipseckey) (front behind : List ℕ) → IsIpseckey f
     })
     ≡ Ok (record { value = found; next = length front + length (ipseckey_wire found) })
 
--- what is read from all octets of an input is data without a missing key, and it is composed to these octets
+-- what is read from all octets of an input is data without a missing key, and it is composed to
+-- these octets
 pub record IsReadWhole (input : Input) (found : DataRead Ipseckey) : Type 0 where
   pub is_data : IsIpseckey found.value
   pub has_key : lacks_key found.value.algorithm found.value.key ≡ false
@@ -91,21 +101,25 @@ pub record IsReadWhole (input : Input) (found : DataRead Ipseckey) : Type 0 wher
   pub next : found.next ≡ input.end
 
 abbrev pub IpseckeyComposedBack : Type 0
-IpseckeyComposedBack = (input : Input) (found : DataRead Ipseckey) → AreOctets input.message → input.end ≤ length input.message
+IpseckeyComposedBack = (input : Input) (found : DataRead Ipseckey) → AreOctets input.message
+    → input.end ≤ length input.message
     → ipseckey_read input ≡ Ok found → IsReadWhole input found
 
 -- what is scanned is data without a missing key, and all tokens are taken
 abbrev pub ScannedIsIpseckey : Type 0
-ScannedIsIpseckey = (tokens : List (List Symbol)) (place end : ℕ) (found : Ipseckey) → AreOctets (flat_map octets_of tokens)
+ScannedIsIpseckey = (tokens : List (List Symbol)) (place end : ℕ) (found : Ipseckey)
+    → AreOctets (flat_map octets_of tokens)
     → scan_ipseckey tokens place ≡ done found end
     → IsIpseckey found × (lacks_key found.algorithm found.key ≡ false) × (end ≡ length tokens)
 
 -- data that is printed is scanned, where no key is missing
 abbrev pub IpseckeyTextReadBack : Type 0
-IpseckeyTextReadBack = (found : Ipseckey) → IsIpseckey found → lacks_key found.algorithm found.key ≡ false
+IpseckeyTextReadBack = (found : Ipseckey) → IsIpseckey found
+    → lacks_key found.algorithm found.key ≡ false
     → IsScannedAs scan_ipseckey (ipseckey_printed found) found
 
 -- and so is data that is laid out, in each layout
 abbrev pub IpseckeyLayoutReadBack : Type 0
-IpseckeyLayoutReadBack = (found : Ipseckey) → IsIpseckey found → lacks_key found.algorithm found.key ≡ false → (kind : DisplayKind)
+IpseckeyLayoutReadBack = (found : Ipseckey) → IsIpseckey found
+    → lacks_key found.algorithm found.key ≡ false → (kind : DisplayKind)
     → IsScannedAs scan_ipseckey (laid_out_text kind (ipseckey_document found)) found

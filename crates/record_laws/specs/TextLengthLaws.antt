@@ -7,14 +7,17 @@ use Rattle.record_spec.specs.Ipseckeys.{Ipseckey, IsIpseckey, ipseckey_len}
 use Rattle.record_spec.specs.IpseckeyTexts.{ipseckey_printed}
 use Rattle.record_laws.specs.RecordLaws.{AreSmall}
 
--- the text has at most 21 octets for each number, two for each octet of the last field, and six more
+-- the text has at most 21 octets for each number, two for each octet of the last field, and six
+-- more
 abbrev pub FieldsTextByOctets : Type 0
-FieldsTextByOctets = (row : Row) → AreSmall row.fields → (found : Data) → IsAssociationData row found
+FieldsTextByOctets = (row : Row) → AreSmall row.fields → (found : Data)
+    → IsAssociationData row found
     → length (fields_printed row found) ≤ 21 * length row.fields + 2 * length found.last + 6
 
 -- the line of the text of data of a type is shorter than 16,777,216 octets
 abbrev pub LineFits : Row → Type 0
-LineFits row = (found : Data) → IsAssociationData row found → length (fields_printed row found ++ 10 ∷ []) < 16777216
+LineFits row = (found : Data) → IsAssociationData row found
+    → length (fields_printed row found ++ 10 ∷ []) < 16777216
 
 -- so it is for the six types
 pub record TypesLinesFit : Type 0 where
@@ -32,8 +35,10 @@ IpseckeyTextByOctets = (found : Ipseckey) → IsIpseckey found
 
 -- so its line is shorter than 16,777,216 octets
 abbrev pub IpseckeyLineFits : Type 0
-IpseckeyLineFits = (found : Ipseckey) → IsIpseckey found → length (ipseckey_printed found ++ 10 ∷ []) < 16777216
+IpseckeyLineFits = (found : Ipseckey) → IsIpseckey found
+    → length (ipseckey_printed found ++ 10 ∷ []) < 16777216
 
 -- the text of at most 65,535 octets of any type has at most two octets for each, and nine more
 abbrev pub UnknownTextByOctets : Type 0
-UnknownTextByOctets = (octets : List ℕ) → length octets ≤ 65535 → length (unknown_text octets) ≤ 2 * length octets + 9
+UnknownTextByOctets = (octets : List ℕ) → length octets ≤ 65535
+    → length (unknown_text octets) ≤ 2 * length octets + 9

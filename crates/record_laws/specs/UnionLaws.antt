@@ -23,8 +23,8 @@ IsUnionData (Svcb found) = service.IsRecordOfOctets found
 IsUnionData (Https found) = service.IsRecordOfOctets found
 IsUnionData (Unknown found) = AreOctets found.octets × (length found.octets ≤ 65535)
 
--- The printed text of data has tokens, and those are scanned under the number of its type as that data. So it is also of
--- octets under the number of a type that has fields.
+-- The printed text of data has tokens, and those are scanned under the number of its type as that
+-- data. So it is also of octets under the number of a type that has fields.
 abbrev pub UnionTextReadBack : Type 0
 UnionTextReadBack = (found : RecordData) → IsUnionData found
     → IsScannedAs (union_scan (rtype_of found)) (union_printed found) found

@@ -1,6 +1,6 @@
--- Lists of octets: their parts, the octets of numbers, and how octets are ordered. Offered to the crates above:
--- `AreOctets-split` and `labels_octets`, `unit_pos`, `length-octets` and `number_order`, `equal`, `then_assoc`,
--- `slice_cmp-append` and `name_wire-order`.
+-- Lists of octets: their parts, the octets of numbers, and how octets are ordered. Offered to the
+-- crates above: `AreOctets-split` and `labels_octets`, `unit_pos`, `length-octets` and
+-- `number_order`, `equal`, `then_assoc`, `slice_cmp-append` and `name_wire-order`.
 use Rattle.std.proofs.Common.{◌≡◌, ◌≢◌, ℕ, zero, suc, ◌+◌, ◌*◌, ◌%◌, ◌^◌, ◌<◌, ◌≤◌, List, [], ◌∷◌, ◌++◌, length, refl, sym, ap, ap₂, ◌∙◌, arith, Ordering, Less, Equal, Greater, inl, inr, append_assoc, pow-suc, mul_comm}
 use Rattle.std.proofs.Math.Nat.{pow-le-pow_right, mul-le-mul_right, mod-eq_of_lt, mod-lt}
 use Rattle.std.proofs.Math.Arith.{mod-mul}
@@ -16,12 +16,15 @@ use Rattle.text_spec.proofs.EncodingTexts.{AreOctets-append}
 
 -- ---- parts of octets
 
-pub AreOctets-split : (front behind : List ℕ) → AreOctets (front ++ behind) → AreOctets front × AreOctets behind
+pub AreOctets-split : (front behind : List ℕ) → AreOctets (front ++ behind) → AreOctets front
+    × AreOctets behind
 AreOctets-split [] behind are = (tt, are)
-AreOctets-split (octet ∷ front) behind are = let rest = AreOctets-split front behind are.1 in ((are.0, rest.0), rest.1)
+AreOctets-split (octet ∷ front) behind are = let rest = AreOctets-split front behind are.1
+    in ((are.0, rest.0), rest.1)
 
 -- the octets of labels are some of those of their name
-pub labels_octets : (labels : List (List ℕ)) → AreOctets (name_wire labels) → AreOctets (flat_map (λ label. label) labels)
+pub labels_octets : (labels : List (List ℕ)) → AreOctets (name_wire labels)
+    → AreOctets (flat_map (λ label. label) labels)
 labels_octets [] are = tt
 labels_octets (label ∷ labels) are =
     let both = AreOctets-split label (name_wire labels) are.1 in
@@ -38,29 +41,36 @@ greater k n above = sym (nat_cmp_is k n Greater above)
 pub equal : (k n : ℕ) → k ≡ n → nat_cmp k n ≡ Equal
 equal k n same = sym (nat_cmp_is k n Equal same)
 
-pub then_assoc : (a b c : Ordering) → ordering_then (ordering_then a b) c ≡ ordering_then a (ordering_then b c)
+pub then_assoc : (a b c : Ordering)
+    → ordering_then (ordering_then a b) c ≡ ordering_then a (ordering_then b c)
 then_assoc Less b c = refl
 then_assoc Equal b c = refl
 then_assoc Greater b c = refl
 
 -- fronts of one length decide before what stands behind them
-pub slice_cmp-append : (xs xs' ys ys' : List ℕ) → length xs ≡ length xs' → slice_cmp nat_cmp (xs ++ ys) (xs' ++ ys') ≡ ordering_then (slice_cmp nat_cmp xs xs') (slice_cmp nat_cmp ys ys')
+pub slice_cmp-append : (xs xs' ys ys' : List ℕ) → length xs ≡ length xs'
+    → slice_cmp nat_cmp (xs ++ ys) (xs' ++ ys')
+    ≡ ordering_then (slice_cmp nat_cmp xs xs') (slice_cmp nat_cmp ys ys')
 slice_cmp-append [] [] ys ys' long = refl
 slice_cmp-append [] (x' ∷ xs') ys ys' long = absurd (omega arith)
 slice_cmp-append (x ∷ xs) [] ys ys' long = absurd (omega arith)
 slice_cmp-append (x ∷ xs) (x' ∷ xs') ys ys' long =
-    ap (ordering_then (nat_cmp x x')) (slice_cmp-append xs xs' ys ys' (omega arith)) ∙ sym (then_assoc (nat_cmp x x') (slice_cmp nat_cmp xs xs') (slice_cmp nat_cmp ys ys'))
+    ap (ordering_then (nat_cmp x x')) (slice_cmp-append xs xs' ys ys' (omega arith))
+        ∙ sym (then_assoc (nat_cmp x x') (slice_cmp nat_cmp xs xs') (slice_cmp nat_cmp ys ys'))
 
 -- the first octets decide where they differ
 first_apart : (x y : ℕ) (xs ys xs' ys' : List ℕ) (after : Ordering) → x ≢ y
-    → slice_cmp nat_cmp (x ∷ xs) (y ∷ ys) ≡ ordering_then (slice_cmp nat_cmp (x ∷ xs') (y ∷ ys')) after
+    → slice_cmp nat_cmp (x ∷ xs) (y ∷ ys)
+        ≡ ordering_then (slice_cmp nat_cmp (x ∷ xs') (y ∷ ys')) after
 first_apart x y xs ys xs' ys' after apart = elim (cases_lt x y) [
   | inl below ↦
       ap (λ o. ordering_then o (slice_cmp nat_cmp xs ys)) (less x y below)
-      ∙ sym (ap (λ o. ordering_then (ordering_then o (slice_cmp nat_cmp xs' ys')) after) (less x y below))
+      ∙ sym (ap (λ o. ordering_then (ordering_then o (slice_cmp nat_cmp xs' ys')) after)
+      (less x y below))
   | inr above ↦
       ap (λ o. ordering_then o (slice_cmp nat_cmp xs ys)) (greater x y (omega arith))
-      ∙ sym (ap (λ o. ordering_then (ordering_then o (slice_cmp nat_cmp xs' ys')) after) (greater x y (omega arith)))
+      ∙ sym (ap (λ o. ordering_then (ordering_then o (slice_cmp nat_cmp xs' ys')) after)
+      (greater x y (omega arith)))
 ]
 
 -- ---- numbers of so many octets
@@ -83,12 +93,17 @@ outweighs h h' l l' unit above low =
     let one : (h + 1) * unit ≡ h * unit + unit = grind arith in
     omega (arith, next, one)
 
-by_front : (h h' l l' unit : ℕ) → l < unit → l' < unit → ordering_then (nat_cmp h h') (nat_cmp l l') ≡ nat_cmp (h * unit + l) (h' * unit + l')
+by_front : (h h' l l' unit : ℕ) → l < unit → l' < unit
+    → ordering_then (nat_cmp h h') (nat_cmp l l') ≡ nat_cmp (h * unit + l) (h' * unit + l')
 by_front h h' l l' unit low low' = elim (cases_lt h h') [
-  | inl below ↦ ap (λ o. ordering_then o (nat_cmp l l')) (less h h' below) ∙ sym (less (h * unit + l) (h' * unit + l') (outweighs h h' l l' unit below low))
+  | inl below ↦ ap (λ o. ordering_then o (nat_cmp l l')) (less h h' below)
+      ∙ sym (less (h * unit + l) (h' * unit + l') (outweighs h h' l l' unit below low))
   | inr not_below ↦ elim (cases_lt h' h) [
-    | inl above ↦ ap (λ o. ordering_then o (nat_cmp l l')) (greater h h' above) ∙ sym (greater (h * unit + l) (h' * unit + l') (outweighs h' h l' l unit above low'))
-    | inr not_above ↦ let same : h ≡ h' = omega arith in ap (λ o. ordering_then o (nat_cmp l l')) (equal h h' same) ∙ by_low (h * unit) (h' * unit) l l' (ap (λ n. n * unit) same)
+    | inl above ↦ ap (λ o. ordering_then o (nat_cmp l l')) (greater h h' above)
+        ∙ sym (greater (h * unit + l) (h' * unit + l') (outweighs h' h l' l unit above low'))
+    | inr not_above ↦ let same : h ≡ h' = omega arith
+        in ap (λ o. ordering_then o (nat_cmp l l')) (equal h h' same)
+        ∙ by_low (h * unit) (h' * unit) l l' (ap (λ n. n * unit) same)
   ]
 ]
   where
@@ -102,12 +117,14 @@ by_front h h' l l' unit low low' = elim (cases_lt h h') [
     ]
 
 -- the order of octets is that of the numbers
-octets_order : (k p q : ℕ) → slice_cmp nat_cmp (bytes_high_first k p) (bytes_high_first k q) ≡ nat_cmp (p % 256 ^ k) (q % 256 ^ k)
+octets_order : (k p q : ℕ) → slice_cmp nat_cmp (bytes_high_first k p) (bytes_high_first k q)
+    ≡ nat_cmp (p % 256 ^ k) (q % 256 ^ k)
 octets_order zero p q = sym (equal (p % 256 ^ zero) (q % 256 ^ zero) (omega arith))
 octets_order (suc k) p q =
     let unit = 256 ^ k in
     ap (ordering_then (nat_cmp (byte_at k p) (byte_at k q))) (octets_order k p q)
-    ∙ by_front (byte_at k p) (byte_at k q) (p % unit) (q % unit) unit (mod-lt p (unit_pos k)) (mod-lt q (unit_pos k))
+    ∙ by_front (byte_at k p) (byte_at k q) (p % unit) (q % unit) unit (mod-lt p (unit_pos k))
+    (mod-lt q (unit_pos k))
     ∙ ap₂ nat_cmp (octet_on k p) (octet_on k q)
 
 -- how many octets these are
@@ -116,31 +133,47 @@ length-octets zero n = refl
 length-octets (suc k) n = ap suc (length-octets k n)
 
 -- numbers that fit are ordered as their octets
-pub number_order : (k p q : ℕ) → p < 256 ^ k → q < 256 ^ k → slice_cmp nat_cmp (bytes_high_first k p) (bytes_high_first k q) ≡ nat_cmp p q
-number_order k p q fits fits' = octets_order k p q ∙ ap₂ nat_cmp (mod-eq_of_lt fits) (mod-eq_of_lt fits')
+pub number_order : (k p q : ℕ) → p < 256 ^ k → q < 256 ^ k
+    → slice_cmp nat_cmp (bytes_high_first k p) (bytes_high_first k q) ≡ nat_cmp p q
+number_order k p q fits fits' =
+    octets_order k p q ∙ ap₂ nat_cmp (mod-eq_of_lt fits) (mod-eq_of_lt fits')
 
 -- ---- names
 
 -- no name's octets are a front of another's, so names decide before what stands behind them
-pub name_wire-order : (labels labels' : List (List ℕ)) (octets octets' : ℕ) (xs ys : List ℕ) → AreLabels octets labels → AreLabels octets' labels'
-    → slice_cmp nat_cmp (name_wire labels ++ xs) (name_wire labels' ++ ys) ≡ ordering_then (slice_cmp nat_cmp (name_wire labels) (name_wire labels')) (slice_cmp nat_cmp xs ys)
+pub name_wire-order : (labels labels' : List (List ℕ)) (octets octets' : ℕ) (xs ys : List ℕ)
+    → AreLabels octets labels → AreLabels octets' labels'
+    → slice_cmp nat_cmp (name_wire labels ++ xs) (name_wire labels' ++ ys)
+        ≡ ordering_then (slice_cmp nat_cmp (name_wire labels) (name_wire labels'))
+        (slice_cmp nat_cmp xs ys)
 name_wire-order [] [] octets octets' xs ys are are' = refl
 name_wire-order [] (label' ∷ labels') octets octets' xs ys are are' =
-    first_apart 0 (length label') xs ((label' ++ name_wire labels') ++ ys) [] (label' ++ name_wire labels') (slice_cmp nat_cmp xs ys) (λ same. omega (arith, are'.0))
+    first_apart 0 (length label') xs ((label' ++ name_wire labels') ++ ys) []
+        (label' ++ name_wire labels') (slice_cmp nat_cmp xs ys) (λ same. omega (arith, are'.0))
 name_wire-order (label ∷ labels) [] octets octets' xs ys are are' =
-    first_apart (length label) 0 ((label ++ name_wire labels) ++ xs) ys (label ++ name_wire labels) [] (slice_cmp nat_cmp xs ys) (λ same. omega (arith, are.0))
-name_wire-order (label ∷ labels) (label' ∷ labels') octets octets' xs ys are are' = elim (cases_eq (length label) (length label')) [
+    first_apart (length label) 0 ((label ++ name_wire labels) ++ xs) ys (label ++ name_wire labels)
+        [] (slice_cmp nat_cmp xs ys) (λ same. omega (arith, are.0))
+name_wire-order (label ∷ labels) (label' ∷ labels') octets octets' xs ys are are' =
+    elim (cases_eq (length label) (length label')) [
   | inl same ↦
-      let rest = name_wire-order labels labels' (octets + length label + 1) (octets' + length label' + 1) xs ys are.3 are'.3 in
+      let rest = name_wire-order labels labels' (octets + length label + 1)
+          (octets' + length label' + 1) xs ys are.3 are'.3 in
       let long : length (length label ∷ label) ≡ length (length label' ∷ label') = omega arith in
       let head : Ordering = slice_cmp nat_cmp (length label ∷ label) (length label' ∷ label') in
       let tail : Ordering = slice_cmp nat_cmp (name_wire labels) (name_wire labels') in
-      ap (λ zs. slice_cmp nat_cmp zs ((length label' ∷ label' ++ name_wire labels') ++ ys)) (append_assoc (length label ∷ label) (name_wire labels) xs)
-      ∙ ap (λ zs. slice_cmp nat_cmp (length label ∷ label ++ (name_wire labels ++ xs)) zs) (append_assoc (length label' ∷ label') (name_wire labels') ys)
-      ∙ slice_cmp-append (length label ∷ label) (length label' ∷ label') (name_wire labels ++ xs) (name_wire labels' ++ ys) long
+      ap (λ zs. slice_cmp nat_cmp zs ((length label' ∷ label' ++ name_wire labels') ++ ys))
+          (append_assoc (length label ∷ label) (name_wire labels) xs)
+      ∙ ap (λ zs. slice_cmp nat_cmp (length label ∷ label ++ (name_wire labels ++ xs)) zs)
+      (append_assoc (length label' ∷ label') (name_wire labels') ys)
+      ∙ slice_cmp-append (length label ∷ label) (length label' ∷ label') (name_wire labels ++ xs)
+      (name_wire labels' ++ ys) long
       ∙ ap (ordering_then head) rest
       ∙ sym (then_assoc head tail (slice_cmp nat_cmp xs ys))
-      ∙ ap (λ o. ordering_then o (slice_cmp nat_cmp xs ys)) (sym (slice_cmp-append (length label ∷ label) (length label' ∷ label') (name_wire labels) (name_wire labels') long))
+      ∙ ap (λ o. ordering_then o (slice_cmp nat_cmp xs ys))
+      (sym (slice_cmp-append (length label ∷ label) (length label' ∷ label') (name_wire labels)
+      (name_wire labels') long))
   | inr apart ↦
-      first_apart (length label) (length label') ((label ++ name_wire labels) ++ xs) ((label' ++ name_wire labels') ++ ys) (label ++ name_wire labels) (label' ++ name_wire labels') (slice_cmp nat_cmp xs ys) apart
+      first_apart (length label) (length label') ((label ++ name_wire labels) ++ xs)
+          ((label' ++ name_wire labels') ++ ys) (label ++ name_wire labels)
+          (label' ++ name_wire labels') (slice_cmp nat_cmp xs ys) apart
 ]

@@ -38,7 +38,8 @@ cds_read = refl
 cds_short : read_data cds (0 ∷ 10 ∷ 5 ∷ []) ≡ Err Short
 cds_short = refl
 
-zonemd_octets : data_wire zonemd (record { numbers = 2018031900 ∷ 1 ∷ 1 ∷ []; last = [] }) ≡ 0x78 ∷ 0x48 ∷ 0xb9 ∷ 0x1c ∷ 1 ∷ 1 ∷ []
+zonemd_octets : data_wire zonemd (record { numbers = 2018031900 ∷ 1 ∷ 1 ∷ []; last = [] })
+    ≡ 0x78 ∷ 0x48 ∷ 0xb9 ∷ 0x1c ∷ 1 ∷ 1 ∷ []
 zonemd_octets = refl
 
 zonemd_least : read_data zonemd (0x78 ∷ 0x48 ∷ 0xb9 ∷ 0x1c ∷ 1 ∷ 1 ∷ replicate 12 7)
@@ -58,15 +59,18 @@ cds_printed : fields_printed cds key_of_cds ≡ codes "10 5 2 6b6579"
 unfolding key_of_cds digits hex.encode_with
 cds_printed = refl
 
-cdnskey_printed : fields_printed cdnskey (record { numbers = 10 ∷ 11 ∷ 5 ∷ []; last = codes "key" }) ≡ codes "10 11 5 a2V5"
+cdnskey_printed : fields_printed cdnskey
+    (record { numbers = 10 ∷ 11 ∷ 5 ∷ []; last = codes "key" }) ≡ codes "10 11 5 a2V5"
 unfolding digits encode_symbols
 cdnskey_printed = refl
 
-openpgpkey_printed : fields_printed openpgpkey (record { numbers = []; last = codes "key" }) ≡ codes "( a2V5 )"
+openpgpkey_printed : fields_printed openpgpkey (record { numbers = []; last = codes "key" })
+    ≡ codes "( a2V5 )"
 unfolding digits encode_symbols
 openpgpkey_printed = refl
 
-sshfp_printed : fields_printed sshfp (record { numbers = 1 ∷ 1 ∷ []; last = 0x73 ∷ 0xd3 ∷ [] }) ≡ codes "1 1 ( 73D3 )"
+sshfp_printed : fields_printed sshfp (record { numbers = 1 ∷ 1 ∷ []; last = 0x73 ∷ 0xd3 ∷ [] })
+    ≡ codes "1 1 ( 73D3 )"
 unfolding digits hex.encode_with
 sshfp_printed = refl
 
@@ -93,7 +97,8 @@ cds_in_a_line : laid_out_text Simple (data_document cds key_of_cds) ≡ codes "1
 unfolding key_of_cds digits hex.encode_with
 cds_in_a_line = refl
 
-openpgpkey_without_octets : laid_out_text Multiline (data_document openpgpkey (record { numbers = []; last = [] })) ≡ codes "( )"
+openpgpkey_without_octets : laid_out_text Multiline
+    (data_document openpgpkey (record { numbers = []; last = [] })) ≡ codes "( )"
 unfolding encode_symbols
 openpgpkey_without_octets = refl
 
@@ -103,7 +108,8 @@ without_gateway : Ipseckey
 without_gateway = record { precedence = 10; algorithm = 0; gateway = NoGateway; key = [] }
 
 to_name : Ipseckey
-to_name = record { precedence = 10; algorithm = 0; gateway = NameGateway (codes "a" ∷ []); key = [] }
+to_name = record { precedence = 10; algorithm = 0; gateway = NameGateway (codes "a" ∷ []);
+    key = [] }
 
 no_gateway_octets : ipseckey_wire without_gateway ≡ 10 ∷ 0 ∷ 0 ∷ []
 unfolding without_gateway
@@ -121,11 +127,13 @@ name_octets : ipseckey_wire to_name ≡ 10 ∷ 3 ∷ 0 ∷ 1 ∷ 0x61 ∷ 0 ∷ 
 unfolding to_name
 name_octets = refl
 
-name_read : ipseckey_read (record { message = 10 ∷ 3 ∷ 0 ∷ 1 ∷ 0x61 ∷ 0 ∷ []; pos = 0; end = 6 }) ≡ Ok (record { value = to_name; next = 6 })
+name_read : ipseckey_read (record { message = 10 ∷ 3 ∷ 0 ∷ 1 ∷ 0x61 ∷ 0 ∷ []; pos = 0; end = 6 })
+    ≡ Ok (record { value = to_name; next = 6 })
 unfolding to_name name_at name_within name_step is_pointed pointed_within pointed_step
 name_read = refl
 
-name_pointed : ipseckey_read (record { message = 0 ∷ 10 ∷ 3 ∷ 0 ∷ 0xc0 ∷ 0 ∷ []; pos = 1; end = 6 }) ≡ Err Form
+name_pointed : ipseckey_read
+    (record { message = 0 ∷ 10 ∷ 3 ∷ 0 ∷ 0xc0 ∷ 0 ∷ []; pos = 1; end = 6 }) ≡ Err Form
 unfolding name_at name_within name_step is_pointed pointed_within pointed_step
 name_pointed = refl
 
@@ -152,21 +160,26 @@ unknown_gateway = refl
 no_key_read : ipseckey_read (record { message = 10 ∷ 0 ∷ 2 ∷ []; pos = 0; end = 3 }) ≡ Err Short
 no_key_read = refl
 
-unknown_type_read : ipseckey_read (record { message = 10 ∷ 4 ∷ 2 ∷ 1 ∷ []; pos = 0; end = 4 }) ≡ Err Form
+unknown_type_read : ipseckey_read (record { message = 10 ∷ 4 ∷ 2 ∷ 1 ∷ []; pos = 0; end = 4 })
+    ≡ Err Form
 unknown_type_read = refl
 
 to_address : Ipseckey
-to_address = record { precedence = 10; algorithm = 2; gateway = Ipv4Gateway (192 ∷ 0 ∷ 2 ∷ 38 ∷ []); key = codes "key" }
+to_address = record { precedence = 10; algorithm = 2;
+    gateway = Ipv4Gateway (192 ∷ 0 ∷ 2 ∷ 38 ∷ []); key = codes "key" }
 
 address_octets : ipseckey_wire to_address ≡ 10 ∷ 1 ∷ 2 ∷ 192 ∷ 0 ∷ 2 ∷ 38 ∷ codes "key"
 unfolding to_address
 address_octets = refl
 
-address_read_again : ipseckey_read (record { message = 10 ∷ 1 ∷ 2 ∷ 192 ∷ 0 ∷ 2 ∷ 38 ∷ codes "key"; pos = 0; end = 10 }) ≡ Ok (record { value = to_address; next = 10 })
+address_read_again : ipseckey_read
+    (record { message = 10 ∷ 1 ∷ 2 ∷ 192 ∷ 0 ∷ 2 ∷ 38 ∷ codes "key"; pos = 0; end = 10 })
+    ≡ Ok (record { value = to_address; next = 10 })
 unfolding to_address
 address_read_again = refl
 
-address_cut_off : ipseckey_read (record { message = 10 ∷ 1 ∷ 2 ∷ 192 ∷ 0 ∷ 2 ∷ []; pos = 0; end = 6 }) ≡ Err Short
+address_cut_off : ipseckey_read
+    (record { message = 10 ∷ 1 ∷ 2 ∷ 192 ∷ 0 ∷ 2 ∷ []; pos = 0; end = 6 }) ≡ Err Short
 address_cut_off = refl
 
 address_printed : ipseckey_printed to_address ≡ codes "10 1 2 192.0.2.38 ( a2V5 )"

@@ -16,24 +16,30 @@ use Rattle.record_spec.specs.Documents.{number_with_comment, numbers_items, last
 -- the items of each number are a document
 abbrev pub HaveDocuments : List Field → Type 0
 HaveDocuments [] = Unit {0}
-HaveDocuments (field ∷ fields) = ((n : ℕ) → IsDocument (number_with_comment n (field.comment n))) × HaveDocuments fields
+HaveDocuments (field ∷ fields) = ((n : ℕ) → IsDocument (number_with_comment n (field.comment n)))
+    × HaveDocuments fields
 
-document-numbers : (fields : List Field) (numbers : List ℕ) → HaveDocuments fields → IsDocument (numbers_items fields numbers)
+document-numbers : (fields : List Field) (numbers : List ℕ) → HaveDocuments fields
+    → IsDocument (numbers_items fields numbers)
 document-numbers [] numbers have = document-nil
 document-numbers (field ∷ fields) [] have = document-nil
 document-numbers (field ∷ fields) (n ∷ numbers) have =
-    document-append (number_with_comment n (field.comment n)) (numbers_items fields numbers) (have.0 n) (document-numbers fields numbers have.1)
+    document-append (number_with_comment n (field.comment n)) (numbers_items fields numbers)
+        (have.0 n) (document-numbers fields numbers have.1)
 
 -- and so are those of the data
-pub document-data : (row : Row) → HaveDocuments row.fields → (found : Data) → IsDocument (data_document row found)
+pub document-data : (row : Row) → HaveDocuments row.fields → (found : Data)
+    → IsDocument (data_document row found)
 document-data row have found =
     let last = last_field_text row.encoding found.last in
     document-block (numbers_items row.fields found.numbers ++ Token last ∷ [])
-    (document-append (numbers_items row.fields found.numbers) (Token last ∷ []) (document-numbers row.fields found.numbers have) (document-tokens (last ∷ [])))
+    (document-append (numbers_items row.fields found.numbers) (Token last ∷ [])
+        (document-numbers row.fields found.numbers have) (document-tokens (last ∷ [])))
 
 -- ---- fields
 
-commented_by : (n : ℕ) (comment : List ℕ) → IsOneLine comment → IsDocument (number_with_comment n (Some comment))
+commented_by : (n : ℕ) (comment : List ℕ) → IsOneLine comment
+    → IsDocument (number_with_comment n (Some comment))
 commented_by n comment one_line = record { closes = λ b. refl; comments = (one_line, tt) }
 
 no_rows : MnemonicsOneLine []
@@ -45,15 +51,20 @@ one_line text h = one_line-number_comment text [] 0 h no_rows
 document-plain : (width n : ℕ) → IsDocument (number_with_comment n ((plain_number width).comment n))
 document-plain width n = document-tokens (decimal n ∷ [])
 
-document-called : (width : ℕ) (comment : List ℕ) → is_one_line comment ≡ true → (n : ℕ) → IsDocument (number_with_comment n ((number_called width comment).comment n))
+document-called : (width : ℕ) (comment : List ℕ) → is_one_line comment ≡ true → (n : ℕ)
+    → IsDocument (number_with_comment n ((number_called width comment).comment n))
 document-called width comment h n = commented_by n comment (one_line comment h)
 
-document-registered : (name : List ℕ) (rows : List (ℕ × List ℕ)) → is_one_line name ≡ true → is_table 256 rows ≡ true → (n : ℕ)
+document-registered : (name : List ℕ) (rows : List (ℕ × List ℕ)) → is_one_line name ≡ true
+    → is_table 256 rows ≡ true → (n : ℕ)
     → IsDocument (number_with_comment n ((registry_number name rows).comment n))
 document-registered name rows h table n =
-    commented_by n (number_comment name (mnemonic_of rows n)) (one_line-number_comment name rows n h (mnemonic_of-one_line 256 rows table))
+    commented_by n (number_comment name (mnemonic_of rows n))
+        (one_line-number_comment name rows n h (mnemonic_of-one_line 256 rows table))
 
-algorithm : (n : ℕ) → IsDocument (number_with_comment n ((registry_number (codes "algorithm") security_algorithms).comment n))
+algorithm : (n : ℕ)
+    → IsDocument
+    (number_with_comment n ((registry_number (codes "algorithm") security_algorithms).comment n))
 algorithm = document-registered (codes "algorithm") security_algorithms refl refl
 
 -- ---- the types
@@ -113,14 +124,19 @@ document-gateway gateway = document-tokens (gateway_text gateway ∷ [])
 
 pub document-ipseckey : (found : Ipseckey) → IsDocument (ipseckey_document found)
 document-ipseckey found =
-    let type = one_line-number_comment (codes "ipseckey gateway type") ipseckey_gateway_types (gateway_type found.gateway) refl
+    let type = one_line-number_comment (codes "ipseckey gateway type") ipseckey_gateway_types
+        (gateway_type found.gateway) refl
     (mnemonic_of-one_line 256 ipseckey_gateway_types refl) in
-    let algorithm = one_line-number_comment (codes "ipseckey algorithm") ipseckey_algorithms found.algorithm refl
+    let algorithm =
+        one_line-number_comment (codes "ipseckey algorithm") ipseckey_algorithms found.algorithm
+        refl
     (mnemonic_of-one_line 256 ipseckey_algorithms refl) in
     record {
       closes = λ b. refl;
       comments = (
         one_line (codes "precedence") refl,
-        (type, (one_line (codes "gateway type") refl, (algorithm, (one_line (codes "algorithm") refl, (one_line (codes "gateway") refl, tt))))),
+        (type, (one_line (codes "gateway type") refl,
+            (algorithm, (one_line (codes "algorithm") refl,
+            (one_line (codes "gateway") refl, tt))))),
       );
     }

@@ -16,7 +16,8 @@ number_with_comment n (Some comment) = Token (decimal n) ∷ Comment comment ∷
 abbrev pub numbers_items : List Field → List ℕ → List Item
 numbers_items [] numbers = []
 numbers_items (field ∷ fields) [] = []
-numbers_items (field ∷ fields) (n ∷ numbers) = number_with_comment n (field.comment n) ++ numbers_items fields numbers
+numbers_items (field ∷ fields) (n ∷ numbers) =
+    number_with_comment n (field.comment n) ++ numbers_items fields numbers
 
 -- the text of the last field; base16 is in upper case
 abbrev pub last_field_text : Encoding → List ℕ → List ℕ
@@ -26,4 +27,6 @@ last_field_text Base64 octets = base64_text octets
 -- a block of the numbers and the last field
 abbrev pub data_document : Row → Data → List Item
 data_document row found =
-    BlockBegin ∷ (numbers_items row.fields found.numbers ++ Token (last_field_text row.encoding found.last) ∷ []) ++ BlockEnd ∷ []
+    BlockBegin ∷
+        (numbers_items row.fields found.numbers ++ Token (last_field_text row.encoding found.last)
+        ∷ []) ++ BlockEnd ∷ []

@@ -1,4 +1,5 @@
--- How the data of IPSECKEY records is compared, and the laws of these comparisons, which an `impl` cites.
+-- How the data of IPSECKEY records is compared, and the laws of these comparisons, which an `impl`
+-- cites.
 use Rattle.std.proofs.Common.{◌≡◌, ℕ, Bool, false, true, List, ◌++◌, Option, Some, None, refl, ap, arith}
 use Rattle.std.specs.Prelude.{◌==◌, ◌&&◌, if◌then◌else◌}
 use Rattle.std.specs.List.{flat_map}
@@ -62,7 +63,9 @@ ipseckey_cmp =
 
 -- what is fed to a hasher
 abbrev pub ipseckey_hash_input : Ipseckey → fed.HashWrites
-ipseckey_hash_input d = fed.u8 d.precedence ++ (fed.u8 d.algorithm ++ (gateway_hash_input d.gateway ++ fed.slice fed.u8 d.key))
+ipseckey_hash_input d =
+    fed.u8 d.precedence
+    ++ (fed.u8 d.algorithm ++ (gateway_hash_input d.gateway ++ fed.slice fed.u8 d.key))
 
 -- ---- laws
 
@@ -86,26 +89,31 @@ same_gateway_ties (NameGateway l) (Ipv6Gateway o) = refl
 same_gateway_ties (NameGateway l) (NameGateway l') = same_name_ties l l'
 
 -- the same gateway feeds the same
-pub same_gateway_hash_input : (g h : Gateway) → is_same_gateway g h ≡ true → gateway_hash_input g ≡ gateway_hash_input h
+pub same_gateway_hash_input : (g h : Gateway) → is_same_gateway g h ≡ true
+    → gateway_hash_input g ≡ gateway_hash_input h
 same_gateway_hash_input NoGateway NoGateway is = refl
 same_gateway_hash_input NoGateway (Ipv4Gateway o) is = absurd cc
 same_gateway_hash_input NoGateway (Ipv6Gateway o) is = absurd cc
 same_gateway_hash_input NoGateway (NameGateway l) is = absurd cc
 same_gateway_hash_input (Ipv4Gateway o) NoGateway is = absurd cc
-same_gateway_hash_input (Ipv4Gateway o) (Ipv4Gateway o') is = ap (λ (os : List ℕ). fed.u8 1 ++ fed.slice fed.u8 os) ((bytes_decides o o').0 is)
+same_gateway_hash_input (Ipv4Gateway o) (Ipv4Gateway o') is =
+    ap (λ (os : List ℕ). fed.u8 1 ++ fed.slice fed.u8 os) ((bytes_decides o o').0 is)
 same_gateway_hash_input (Ipv4Gateway o) (Ipv6Gateway o') is = absurd cc
 same_gateway_hash_input (Ipv4Gateway o) (NameGateway l) is = absurd cc
 same_gateway_hash_input (Ipv6Gateway o) NoGateway is = absurd cc
 same_gateway_hash_input (Ipv6Gateway o) (Ipv4Gateway o') is = absurd cc
-same_gateway_hash_input (Ipv6Gateway o) (Ipv6Gateway o') is = ap (λ (os : List ℕ). fed.u8 2 ++ fed.slice fed.u8 os) ((bytes_decides o o').0 is)
+same_gateway_hash_input (Ipv6Gateway o) (Ipv6Gateway o') is =
+    ap (λ (os : List ℕ). fed.u8 2 ++ fed.slice fed.u8 os) ((bytes_decides o o').0 is)
 same_gateway_hash_input (Ipv6Gateway o) (NameGateway l) is = absurd cc
 same_gateway_hash_input (NameGateway l) NoGateway is = absurd cc
 same_gateway_hash_input (NameGateway l) (Ipv4Gateway o) is = absurd cc
 same_gateway_hash_input (NameGateway l) (Ipv6Gateway o) is = absurd cc
-same_gateway_hash_input (NameGateway l) (NameGateway l') is = ap (λ (w : fed.HashWrites). fed.u8 3 ++ w) (fed-same (flat_map fed.u8) l l' is)
+same_gateway_hash_input (NameGateway l) (NameGateway l') is =
+    ap (λ (w : fed.HashWrites). fed.u8 3 ++ w) (fed-same (flat_map fed.u8) l l' is)
 
 -- the same gateways are of one type
-pub same_type : (g h : Gateway) → is_same_gateway g h ≡ true → (gateway_type g == gateway_type h) ≡ true
+pub same_type : (g h : Gateway) → is_same_gateway g h ≡ true
+    → (gateway_type g == gateway_type h) ≡ true
 same_type NoGateway NoGateway is = refl
 same_type (Ipv4Gateway o) (Ipv4Gateway o') is = refl
 same_type (Ipv6Gateway o) (Ipv6Gateway o') is = refl
@@ -146,7 +154,8 @@ same_ipseckey_ties x y =
       unsigned_tied x.algorithm y.algorithm,
       same_gateway_ties x.gateway y.gateway,
       texts_ties x.key y.key,
-      implied type_test (x.algorithm == y.algorithm) (is_same_gateway x.gateway y.gateway) (pointwise ◌==◌ x.key y.key) (same_type x.gateway y.gateway),
+      implied type_test (x.algorithm == y.algorithm) (is_same_gateway x.gateway y.gateway)
+          (pointwise ◌==◌ x.key y.key) (same_type x.gateway y.gateway),
       tied_then g k,
       tied_then a (ordering_then g k),
       tied_then t (ordering_then a (ordering_then g k)),
@@ -157,11 +166,13 @@ same_number : (a b : ℕ) → (a == b) ≡ true → a ≡ b
 same_number a b is = grind (arith, nat_tests)
 
 -- the same data feeds the same
-pub same_ipseckey_hash_input : (x y : Ipseckey) → is_same_ipseckey x y ≡ true → ipseckey_hash_input x ≡ ipseckey_hash_input y
+pub same_ipseckey_hash_input : (x y : Ipseckey) → is_same_ipseckey x y ≡ true
+    → ipseckey_hash_input x ≡ ipseckey_hash_input y
 same_ipseckey_hash_input x y is =
     let first = and_parts (x.precedence == y.precedence) _ is in
     let second = and_parts (x.algorithm == y.algorithm) _ first.1 in
-    let third = and_parts (is_same_gateway x.gateway y.gateway) (pointwise ◌==◌ x.key y.key) second.1 in
+    let third = and_parts (is_same_gateway x.gateway y.gateway)
+        (pointwise ◌==◌ x.key y.key) second.1 in
     cc (
       same_number x.precedence y.precedence first.0,
       same_number x.algorithm y.algorithm second.0,

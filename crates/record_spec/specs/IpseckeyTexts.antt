@@ -23,7 +23,8 @@ no_gateway_of octets = if bytes_eq octets (codes ".") then Some NoGateway else N
 
 -- what is scanned, as a gateway
 abbrev pub scan_gateway_as : {V : Type 0} → (V → Gateway) → Scanning V → Scanning Gateway
-scan_gateway_as gateway scanning tokens place = scan_then (scanning tokens place) (λ found after. done (gateway found) after)
+scan_gateway_as gateway scanning tokens place =
+    scan_then (scanning tokens place) (λ found after. done (gateway found) after)
 
 -- a gateway of a type; of an unknown type no token is taken
 abbrev pub scan_gateway : ℕ → Scanning Gateway
@@ -49,7 +50,9 @@ scan_ipseckey tokens place =
     scan_then (number_below 256 tokens after_type) (λ algorithm after_algorithm.
     scan_then (scan_gateway type tokens after_algorithm) (λ gateway after_gateway.
     scan_then (rest_base64 tokens after_gateway) (λ key end.
-    complete_ipseckey (record { precedence = precedence; algorithm = algorithm; gateway = gateway; key = key }) tokens end)))))
+    complete_ipseckey
+        (record { precedence = precedence; algorithm = algorithm; gateway = gateway; key = key })
+        tokens end)))))
 
 -- ---- printed
 
@@ -74,19 +77,24 @@ gateway_document gateway = Token (gateway_text gateway) ∷ []
 -- the comment of a gateway's type
 abbrev pub type_comment : Gateway → List ℕ
 type_comment gateway =
-    number_comment (codes "ipseckey gateway type") (mnemonic_of ipseckey_gateway_types (gateway_type gateway))
+    number_comment (codes "ipseckey gateway type")
+        (mnemonic_of ipseckey_gateway_types (gateway_type gateway))
 
 -- the comment of an algorithm
 abbrev pub algorithm_comment : ℕ → List ℕ
-algorithm_comment algorithm = number_comment (codes "ipseckey algorithm") (mnemonic_of ipseckey_algorithms algorithm)
+algorithm_comment algorithm =
+    number_comment (codes "ipseckey algorithm") (mnemonic_of ipseckey_algorithms algorithm)
 
--- a block of the numbers, the gateway and the key; behind the comments of a registry's numbers stand those of the fields
+-- a block of the numbers, the gateway and the key; behind the comments of a registry's numbers
+-- stand those of the fields
 abbrev pub ipseckey_document : Ipseckey → List Item
 ipseckey_document found =
     BlockBegin
     ∷ Token (decimal found.precedence) ∷ Comment (codes "precedence")
-    ∷ Token (decimal (gateway_type found.gateway)) ∷ Comment (type_comment found.gateway) ∷ Comment (codes "gateway type")
-    ∷ Token (decimal found.algorithm) ∷ Comment (algorithm_comment found.algorithm) ∷ Comment (codes "algorithm")
+    ∷ Token (decimal (gateway_type found.gateway)) ∷ Comment (type_comment found.gateway)
+    ∷ Comment (codes "gateway type")
+    ∷ Token (decimal found.algorithm) ∷ Comment (algorithm_comment found.algorithm)
+    ∷ Comment (codes "algorithm")
     ∷ Token (gateway_text found.gateway) ∷ Comment (codes "gateway")
     ∷ Token (base64_text found.key)
     ∷ BlockEnd

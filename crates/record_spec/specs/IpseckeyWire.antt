@@ -26,14 +26,16 @@ gateway_read type input =
     else if type == 3 then name_at input.message input.end input.pos 0 0 >>= name_gateway input
     else Err Form
 
--- the key in all octets left behind the gateway, and with it the data, which began at the input's place
+-- the key in all octets left behind the gateway, and with it the data, which began at the input's
+-- place
 abbrev pub key_read : ℕ → ℕ → Input → DataRead Gateway → Result (DataRead Ipseckey) Fault
 key_read precedence algorithm input gateway =
     let key = slice_range input.message gateway.next input.end in
     if lacks_key algorithm key then Err Short
     else if nat_lt 65535 (input.end - input.pos) then Err Form
     else Ok (record {
-      value = record { precedence = precedence; algorithm = algorithm; gateway = gateway.value; key = key };
+      value = record { precedence = precedence; algorithm = algorithm; gateway = gateway.value;
+          key = key };
       next = input.end;
     })
 
@@ -44,4 +46,5 @@ ipseckey_read input =
     let type = slice_index input.message (input.pos + 1) in
     let algorithm = slice_index input.message (input.pos + 2) in
     if nat_lt input.end (input.pos + 3) then Err Short
-    else gateway_read type (record input { pos = input.pos + 3 }) >>= key_read precedence algorithm input
+    else gateway_read type (record input { pos = input.pos + 3 })
+        >>= key_read precedence algorithm input

@@ -4,7 +4,8 @@ use Rattle.std.specs.List.{flat_map}
 use Rattle.name_spec.specs.Names.{name_wire, AreLabels}
 use Rattle.name_spec.specs.AddressLaws.{AreOctets}
 
--- what stands for the gateway: nothing, the octets of an address, or the labels of a name without the root
+-- what stands for the gateway: nothing, the octets of an address, or the labels of a name without
+-- the root
 pub data Gateway : Type 0 where
   NoGateway : Gateway
   Ipv4Gateway : (octets : List ℕ) → Gateway
@@ -38,11 +39,12 @@ gateway_wire (Ipv4Gateway octets) = octets
 gateway_wire (Ipv6Gateway octets) = octets
 gateway_wire (NameGateway labels) = name_wire labels
 
--- The octets of the data. In canonical form they are the same: RFC 4034, section 6.2, doesn't name IPSECKEY, so that a
--- gateway's name keeps its case.
+-- The octets of the data. In canonical form they are the same: RFC 4034, section 6.2, doesn't name
+-- IPSECKEY, so that a gateway's name keeps its case.
 abbrev pub ipseckey_wire : Ipseckey → List ℕ
 ipseckey_wire found =
-    found.precedence ∷ gateway_type found.gateway ∷ found.algorithm ∷ gateway_wire found.gateway ++ found.key
+    found.precedence ∷ gateway_type found.gateway ∷ found.algorithm ∷ gateway_wire found.gateway
+        ++ found.key
 
 -- their count
 abbrev pub ipseckey_len : Ipseckey → ℕ

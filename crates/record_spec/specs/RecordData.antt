@@ -7,8 +7,8 @@ use Rattle.record_spec.specs.Wire.{data_wire}
 use Rattle.record_spec.specs.Ipseckeys as ipseckeys
 use Rattle.record_spec.specs.Ipseckeys.{ipseckey_wire}
 
--- The data of one of eleven types by its fields, or octets under any type number. Data of the eleven types may be held as
--- octets too.
+-- The data of one of eleven types by its fields, or octets under any type number. Data of the
+-- eleven types may be held as octets too.
 pub data RecordData : Type 0 where
   A : (address : List ℕ) → RecordData
   Aaaa : (address : List ℕ) → RecordData

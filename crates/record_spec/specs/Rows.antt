@@ -1,5 +1,6 @@
--- The records that tie a name to keys, digests and certificates. Their data has one form: numbers in fixed fields, and
--- a last field that takes the rest. IPSECKEY alone has another (`Ipseckeys.antt`).
+-- The records that tie a name to keys, digests and certificates. Their data has one form: numbers
+-- in fixed fields, and a last field that takes the rest. IPSECKEY alone has another
+-- (`Ipseckeys.antt`).
 use Rattle.std.specs.Prelude.{ℕ, ◌+◌, ◌≤◌, ◌<◌, ◌^◌, Bool, true, false, Option, Some, None, List, [], ◌∷◌, length, codes}
 use Rattle.name_spec.specs.AddressLaws.{AreOctets}
 use Rattle.registry.specs.Tables.{mnemonic_of}
@@ -10,13 +11,14 @@ use Rattle.record_spec.specs.declared.Encoding.TheVariants.{Base16, Base64}
 
 -- ---- the form
 
--- a fixed field: how many octets its number has, and the comment that stands behind the number in a layout, if any
+-- a fixed field: how many octets its number has, and the comment that stands behind the number in a
+-- layout, if any
 pub record Field : Type 0 where
   pub width : ℕ
   pub comment : ℕ → Option (List ℕ)
 
--- A type of record: its number, its fixed fields, the fewest octets of the last field that reading takes, how the last
--- field is written, and whether `Display` writes it in brackets.
+-- A type of record: its number, its fixed fields, the fewest octets of the last field that reading
+-- takes, how the last field is written, and whether `Display` writes it in brackets.
 pub record Row : Type 0 where
   pub rtype : ℕ
   pub fields : List Field
@@ -63,7 +65,8 @@ number_called width comment = record { width = width; comment = λ n. Some comme
 
 -- a number of a registry, which its comment names
 abbrev pub registry_number : List ℕ → List (ℕ × List ℕ) → Field
-registry_number name rows = record { width = 1; comment = λ n. Some (number_comment name (mnemonic_of rows n)) }
+registry_number name rows =
+    record { width = 1; comment = λ n. Some (number_comment name (mnemonic_of rows n)) }
 
 -- ---- the types
 
@@ -71,7 +74,9 @@ registry_number name rows = record { width = 1; comment = λ n. Some (number_com
 abbrev pub cds : Row
 cds = record {
   rtype = 59;
-  fields = number_called 2 (codes "key tag") ∷ registry_number (codes "algorithm") security_algorithms ∷ registry_number (codes "digest type") digest_algorithms ∷ [];
+  fields = number_called 2 (codes "key tag")
+      ∷ registry_number (codes "algorithm") security_algorithms
+      ∷ registry_number (codes "digest type") digest_algorithms ∷ [];
   least = 0;
   encoding = Base16;
   in_brackets = false;
@@ -81,7 +86,8 @@ cds = record {
 abbrev pub cdnskey : Row
 cdnskey = record {
   rtype = 60;
-  fields = plain_number 2 ∷ plain_number 1 ∷ registry_number (codes "algorithm") security_algorithms ∷ [];
+  fields = plain_number 2 ∷ plain_number 1
+      ∷ registry_number (codes "algorithm") security_algorithms ∷ [];
   least = 0;
   encoding = Base64;
   in_brackets = false;
@@ -101,7 +107,8 @@ sshfp = record {
 abbrev pub tlsa : Row
 tlsa = record {
   rtype = 52;
-  fields = plain_number 1 ∷ registry_number (codes "selector") tlsa_selectors ∷ registry_number (codes "matching type") tlsa_matching_types ∷ [];
+  fields = plain_number 1 ∷ registry_number (codes "selector") tlsa_selectors
+      ∷ registry_number (codes "matching type") tlsa_matching_types ∷ [];
   least = 0;
   encoding = Base16;
   in_brackets = true;
@@ -111,7 +118,8 @@ tlsa = record {
 abbrev pub zonemd : Row
 zonemd = record {
   rtype = 63;
-  fields = plain_number 4 ∷ registry_number (codes "scheme") zonemd_schemes ∷ registry_number (codes "hash algorithm") zonemd_algorithms ∷ [];
+  fields = plain_number 4 ∷ registry_number (codes "scheme") zonemd_schemes
+      ∷ registry_number (codes "hash algorithm") zonemd_algorithms ∷ [];
   least = 12;
   encoding = Base16;
   in_brackets = true;

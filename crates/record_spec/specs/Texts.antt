@@ -27,7 +27,8 @@ rest_encoded Base64 = rest_base64
 
 -- data of at most 65,535 octets, all of whose tokens are taken
 abbrev pub within_length : Row → Data → Scanning Data
-within_length row found tokens end = if nat_lt 65535 (data_len row found) then refused LongRecord end else done found end
+within_length row found tokens end =
+    if nat_lt 65535 (data_len row found) then refused LongRecord end else done found end
 
 -- the last field, behind the numbers
 abbrev pub scan_last : Row → List ℕ → Scanning Data
@@ -54,4 +55,5 @@ last_printed Base64 true octets = codes "( " ++ base64_text octets ++ codes " )"
 
 -- the text of data
 abbrev pub fields_printed : Row → Data → List ℕ
-fields_printed row found = numbers_printed found.numbers ++ last_printed row.encoding row.in_brackets found.last
+fields_printed row found =
+    numbers_printed found.numbers ++ last_printed row.encoding row.in_brackets found.last

@@ -1,4 +1,5 @@
--- The documents of the data of records, and that they are documents. An `impl` that lays one out cites this for its law.
+-- The documents of the data of records, and that they are documents. An `impl` that lays one out
+-- cites this for its law.
 use Rattle.std.specs.Prelude.{List, [], ◌∷◌, length, codes}
 use Rattle.std.specs.Fmt.{decimal}
 use Rattle.name_spec.specs.Addresses.{ipv4_text, ipv6_text}
@@ -40,4 +41,5 @@ document-union (Openpgpkey found) = document-openpgpkey found
 document-union (Zonemd found) = document-zonemd found
 document-union (Svcb found) = document-svcb found
 document-union (Https found) = document-svcb found
-document-union (Unknown found) = document-tokens (codes "\\#" ∷ decimal (length found.octets) ∷ base16_text found.octets ∷ [])
+document-union (Unknown found) =
+    document-tokens (codes "\\#" ∷ decimal (length found.octets) ∷ base16_text found.octets ∷ [])

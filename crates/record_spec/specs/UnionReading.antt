@@ -11,7 +11,8 @@ use Rattle.record_spec.specs.IpseckeyWire.{ipseckey_read}
 use Rattle.record_spec.specs.RecordData.{RecordData, A, Aaaa, Sshfp, Ipseckey, Tlsa, Cds, Cdnskey, Openpgpkey, Zonemd, Svcb, Https, Unknown}
 
 -- what was read, as data of its type, and the same place behind it
-abbrev pub read_as : {V : Type 0} → (V → RecordData) → Result (DataRead V) Fault → Result (DataRead RecordData) Fault
+abbrev pub read_as : {V : Type 0} → (V → RecordData) → Result (DataRead V) Fault
+    → Result (DataRead RecordData) Fault
 read_as type (Ok found) = Ok (record { value = type found.value; next = found.next })
 read_as type (Err fault) = Err fault
 
@@ -19,8 +20,8 @@ read_as type (Err fault) = Err fault
 abbrev pub svcb_read : Input → Result (DataRead Record) Fault
 svcb_read input = reaching input.end (read input.message input.pos (input.end - input.pos))
 
--- The data under a type number, and the place behind it. A number that has no row reads all octets before the end of the
--- data.
+-- The data under a type number, and the place behind it. A number that has no row reads all octets
+-- before the end of the data.
 abbrev pub union_read : ℕ → Input → Result (DataRead RecordData) Fault
 union_read rtype input =
     if rtype == 1 then read_as A (address_read 4 input)

@@ -16,13 +16,15 @@ use Rattle.record_spec.specs.RecordData.{RecordData, A, Aaaa, Sshfp, Ipseckey, T
 
 -- what is scanned, as data of its type
 abbrev pub scan_as : {V : Type 0} → (V → RecordData) → Scanning V → Scanning RecordData
-scan_as type scanning tokens place = scan_then (scanning tokens place) (λ found after. done (type found) after)
+scan_as type scanning tokens place =
+    scan_then (scanning tokens place) (λ found after. done (type found) after)
 
 -- octets, as data of a type number
 abbrev pub octets_under : ℕ → List ℕ → RecordData
 octets_under rtype octets = Unknown (record { rtype = rtype; octets = octets })
 
--- the fields of the type with that number; a number without fields is refused before a token is taken
+-- the fields of the type with that number; a number without fields is refused before a token is
+-- taken
 abbrev pub scan_fields : ℕ → Scanning RecordData
 scan_fields rtype tokens place =
     if rtype == 1 then scan_as A ipv4_address tokens place
@@ -46,11 +48,13 @@ scan_any rtype tokens place =
 
 -- nothing may be left behind the data
 abbrev pub at_end : RecordData → Scanning RecordData
-at_end found tokens end = if nat_lt end (length tokens) then refused TrailingTokens end else done found end
+at_end found tokens end = if nat_lt end (length tokens) then refused TrailingTokens end
+    else done found end
 
 -- the data that all tokens left spell under a type number
 abbrev pub union_scan : ℕ → Scanning RecordData
-union_scan rtype tokens place = scan_then (scan_any rtype tokens place) (λ found end. at_end found tokens end)
+union_scan rtype tokens place =
+    scan_then (scan_any rtype tokens place) (λ found end. at_end found tokens end)
 
 -- ---- printed
 

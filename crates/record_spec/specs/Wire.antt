@@ -12,7 +12,8 @@ use Rattle.record_spec.specs.Rows.{Field, Row, Data, fixed_len}
 abbrev pub numbers_wire : List Field → List ℕ → List ℕ
 numbers_wire [] numbers = []
 numbers_wire (field ∷ fields) [] = []
-numbers_wire (field ∷ fields) (n ∷ numbers) = bytes_high_first field.width n ++ numbers_wire fields numbers
+numbers_wire (field ∷ fields) (n ∷ numbers) =
+    bytes_high_first field.width n ++ numbers_wire fields numbers
 
 -- the octets of data
 abbrev pub data_wire : Row → Data → List ℕ
@@ -28,10 +29,11 @@ number_of_octets (octet ∷ octets) = octet * 256 ^ length octets + number_of_oc
 -- the numbers of fixed fields that octets begin with
 abbrev pub numbers_in : List Field → List ℕ → List ℕ
 numbers_in [] octets = []
-numbers_in (field ∷ fields) octets = number_of_octets (take field.width octets) ∷ numbers_in fields (drop field.width octets)
+numbers_in (field ∷ fields) octets =
+    number_of_octets (take field.width octets) ∷ numbers_in fields (drop field.width octets)
 
--- The data in octets. Where one of a fixed field is missing, or the last field has too few, they are short; else more
--- than 65,535 are not allowed.
+-- The data in octets. Where one of a fixed field is missing, or the last field has too few, they
+-- are short; else more than 65,535 are not allowed.
 abbrev pub read_data : Row → List ℕ → Result Data Fault
 read_data row octets =
     let fixed = fixed_len row.fields in

@@ -6,9 +6,10 @@ use Rattle.wire_base.specs.Input.{Input}
 use Rattle.wire_base.specs.Faults.{IsFaultOf}
 use Rattle.wire_base.specs.declared.errors.ParseError.{ParseError}
 
--- The answer under a key: nothing exactly where the type does not take the key. Else the value that reading gives, as
--- `seen` shows it, or the fault. Want of memory never comes.
-abbrev pub ValueAnswers : {V Seen : Type 0} → (V → Seen) → Result (Option V) ParseError → Bool → Result (Taken Seen) Fault → Type 0
+-- The answer under a key: nothing exactly where the type does not take the key. Else the value that
+-- reading gives, as `seen` shows it, or the fault. Want of memory never comes.
+abbrev pub ValueAnswers : {V Seen : Type 0} → (V → Seen) → Result (Option V) ParseError → Bool
+    → Result (Taken Seen) Fault → Type 0
 ValueAnswers seen result false read = result ≡ Ok None
 ValueAnswers seen (Ok None) true read = ⊥
 ValueAnswers seen (Ok (Some value)) true (Ok taken) = taken.value ≡ seen value

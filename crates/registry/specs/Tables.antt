@@ -26,11 +26,13 @@ number_of (row ∷ rows) m = if is_same row.1 m then Some row.0 else number_of r
 abbrev pub is_one_line : List ℕ → Bool
 is_one_line text = not (list_any (λ c. c == 10) text)
 
--- whether the numbers are below a bound and distinct, and the mnemonics distinct in any case and without a line feed
+-- whether the numbers are below a bound and distinct, and the mnemonics distinct in any case and
+-- without a line feed
 abbrev pub is_table : ℕ → List (ℕ × List ℕ) → Bool
 is_table bound [] = true
 is_table bound (row ∷ rows) =
-    nat_lt row.0 bound && is_none (mnemonic_of rows row.0) && is_none (number_of rows row.1) && is_one_line row.1 && is_table bound rows
+    nat_lt row.0 bound && is_none (mnemonic_of rows row.0) && is_none
+        (number_of rows row.1) && is_one_line row.1 && is_table bound rows
 
 -- a mnemonic is read as its number
 abbrev pub MnemonicsRead : List (ℕ × List ℕ) → Type 0
@@ -38,7 +40,8 @@ MnemonicsRead rows = (n : ℕ) (m : List ℕ) → mnemonic_of rows n ≡ Some m 
 
 -- what is read as a number is its mnemonic, but for case
 abbrev pub NumbersRead : List (ℕ × List ℕ) → Type 0
-NumbersRead rows = (m : List ℕ) (n : ℕ) → number_of rows m ≡ Some n → option_map lower_case (mnemonic_of rows n) ≡ Some (lower_case m)
+NumbersRead rows = (m : List ℕ) (n : ℕ) → number_of rows m ≡ Some n
+    → option_map lower_case (mnemonic_of rows n) ≡ Some (lower_case m)
 
 -- no mnemonic has a line feed
 abbrev pub MnemonicsOneLine : List (ℕ × List ℕ) → Type 0

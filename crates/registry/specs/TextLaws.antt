@@ -27,7 +27,8 @@ numeral_from [] e = cc
 numeral_from (d ∷ ds) e = (omega arith, own.to (d ∷ ds) e)
 
 -- digits with a value below a bound
-pub numeral_below-some : (bound n : ℕ) (ds : List ℕ) → IsNumeral 10 ds → digits_value 10 ds ≡ n → n < bound → numeral_below bound ds ≡ Some n
+pub numeral_below-some : (bound n : ℕ) (ds : List ℕ) → IsNumeral 10 ds → digits_value 10 ds ≡ n
+    → n < bound → numeral_below bound ds ≡ Some n
 numeral_below-some bound n ds is e lt =
     let below : nat_lt (digits_value 10 ds) bound ≡ true = grind (arith, nat_tests) in
     rw (is_numeral-true ds is, below) (ap Some e)
@@ -36,23 +37,32 @@ numeral_below-some bound n ds is e lt =
 plain_decimal : (n : ℕ) → n < 2 ^ 64 → without_leading_plus (decimal n) ≡ decimal n
 plain_decimal n small =
     let is = (decimal_is_IsNumeral n small).0 in
-    without_leading_plus_none (decimal n) (not_in_digits own (decimal n) 43 (own.from (decimal n) is.1) (λ h. omega (arith, h)) 0 is.0)
+    without_leading_plus_none (decimal n)
+        (not_in_digits own (decimal n) 43 (own.from (decimal n) is.1)
+        (λ h. omega (arith, h)) 0 is.0)
 
 -- a printed number is read back
-pub spelled_number-decimal : (bound n : ℕ) → n < bound → n < 2 ^ 64 → spelled_number bound (decimal n) ≡ Some n
+pub spelled_number-decimal : (bound n : ℕ) → n < bound → n < 2 ^ 64
+    → spelled_number bound (decimal n) ≡ Some n
 spelled_number-decimal bound n lt small =
     let is = decimal_is_IsNumeral n small in
-    ap (numeral_below bound) (plain_decimal n small) ∙ numeral_below-some bound n (decimal n) is.0 is.1 lt
+    ap (numeral_below bound) (plain_decimal n small)
+        ∙ numeral_below-some bound n (decimal n) is.0 is.1 lt
 
 -- the same of a number of one octet
 pub spelled_number-octet : (n : ℕ) → n < 256 → spelled_number 256 (decimal n) ≡ Some n
 spelled_number-octet n below = spelled_number-decimal 256 n below (omega arith)
 
 -- what std's `parse` gives for digits
-read_digits : {E : Type 0} (k : ℕ) (ds : List ℕ) (r : Result ℕ E) → OkIff r (IsNumeral 10 ds × (digits_value 10 ds < 2 ^ k)) (digits_value 10 ds) → result_ok r ≡ numeral_below (2 ^ k) ds
-read_digits k ds (Ok x) h = let e : x ≡ digits_value 10 ds = h.1 in sym (numeral_below-some (2 ^ k) x ds h.0.0 (sym e) (rw e h.0.1))
+read_digits : {E : Type 0} (k : ℕ) (ds : List ℕ) (r : Result ℕ E)
+    → OkIff r (IsNumeral 10 ds × (digits_value 10 ds < 2 ^ k)) (digits_value 10 ds)
+    → result_ok r ≡ numeral_below (2 ^ k) ds
+read_digits k ds (Ok x) h = let e : x ≡ digits_value 10 ds = h.1
+    in sym (numeral_below-some (2 ^ k) x ds h.0.0 (sym e) (rw e h.0.1))
 read_digits k ds (Err e) h =
-    elim (is_numeral ds && nat_lt (digits_value 10 ds) (2 ^ k)) as (λ t. (is_numeral ds && nat_lt (digits_value 10 ds) (2 ^ k)) ≡ t → None ≡ cond t (Some (digits_value 10 ds)) None) [
+    elim (is_numeral ds && nat_lt (digits_value 10 ds) (2 ^ k)) as
+        (λ t. (is_numeral ds && nat_lt (digits_value 10 ds) (2 ^ k)) ≡ t
+        → None ≡ cond t (Some (digits_value 10 ds)) None) [
       | false ↦ λ e. refl
       | true ↦ λ e.
           let parts = and_parts (is_numeral ds) (nat_lt (digits_value 10 ds) (2 ^ k)) e in
@@ -62,5 +72,6 @@ read_digits k ds (Err e) h =
     ] refl
 
 -- what std's `parse` gives for a text
-pub parsed_text : {E : Type 0} (k : ℕ) (text : List ℕ) (r : Result ℕ E) → ParsesUnsigned k 10 text r → result_ok r ≡ spelled_number (2 ^ k) text
+pub parsed_text : {E : Type 0} (k : ℕ) (text : List ℕ) (r : Result ℕ E)
+    → ParsesUnsigned k 10 text r → result_ok r ≡ spelled_number (2 ^ k) text
 parsed_text k text r h = read_digits k (without_leading_plus text) r h

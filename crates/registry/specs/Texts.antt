@@ -14,7 +14,8 @@ is_numeral (c ∷ cs) = all_ascii_digits (c ∷ cs)
 
 -- the value of decimal digits, if it is below a bound
 abbrev pub numeral_below : ℕ → List ℕ → Option ℕ
-numeral_below bound ds = if is_numeral ds && nat_lt (digits_value 10 ds) bound then Some (digits_value 10 ds) else None
+numeral_below bound ds = if is_numeral ds && nat_lt (digits_value 10 ds) bound
+    then Some (digits_value 10 ds) else None
 
 -- the number below a bound that a text spells: an optional `+`, then one or more decimal digits
 abbrev pub spelled_number : ℕ → List ℕ → Option ℕ
@@ -28,7 +29,8 @@ begins_with_key text = is_same (take 3 text) (codes "key")
 abbrev pub generic_key : List ℕ → Option ℕ
 generic_key text = if begins_with_key text then spelled_number 65536 (drop 3 text) else None
 
--- the key of a service parameter that a text spells: a mnemonic, else `key` and a number (RFC 9460, section 2.1)
+-- the key of a service parameter that a text spells: a mnemonic, else `key` and a number (RFC 9460,
+-- section 2.1)
 abbrev pub spelled_key : List (ℕ × List ℕ) → List ℕ → Option ℕ
 spelled_key rows text = option_or (number_of rows text) (generic_key text)
 

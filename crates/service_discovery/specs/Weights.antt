@@ -5,4 +5,5 @@ use Rattle.name_spec.specs.Taking.{Taken}
 
 -- the first octet; what stands behind it is left
 abbrev pub weight_in : List ℕ → Result (Taken ℕ) Fault
-weight_in octets = if nat_lt (length octets) 1 then Err Short else Ok (record { value = slice_index octets 0; len = 1 })
+weight_in octets = if nat_lt (length octets) 1 then Err Short
+    else Ok (record { value = slice_index octets 0; len = 1 })

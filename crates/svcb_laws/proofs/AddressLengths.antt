@@ -1,4 +1,5 @@
--- How long the texts of addresses are. Offered to the crates above: `ipv4-length` and `ipv6-length`.
+-- How long the texts of addresses are. Offered to the crates above: `ipv4-length` and
+-- `ipv6-length`.
 use Rattle.std.proofs.Common.{◌≡◌, ℕ, zero, suc, ◌+◌, ◌*◌, ◌/◌, ◌%◌, ◌<◌, ◌≤◌, true, false, cond, List, [], ◌∷◌, ◌++◌, length, take, drop, codes, arith, length-append, length-drop, length-take}
 use Rattle.std.specs.Prelude.{slice_index, bytes_eq, nat_lt}
 use Rattle.std.specs.Char.{digit_char}
@@ -14,7 +15,8 @@ use Rattle.svcb_laws.proofs.PieceLengths.{octet-length}
 
 -- ---- four octets
 
-dotted-length : (a b c d : ℕ) → a < 256 → b < 256 → c < 256 → d < 256 → length (net.dotted_text a b c d) ≤ 15
+dotted-length : (a b c d : ℕ) → a < 256 → b < 256 → c < 256 → d < 256
+    → length (net.dotted_text a b c d) ≤ 15
 dotted-length a b c d small_a small_b small_c small_d =
     let len_a = octet-length a small_a in
     let len_b = octet-length b small_b in
@@ -25,7 +27,8 @@ dotted-length a b c d small_a small_b small_c small_d =
 pub ipv4-length : (octets : List ℕ) → AreOctets octets → length (ipv4_text octets) ≤ 15
 ipv4-length octets are =
     let small = small_octets octets (each_octet octets are) in
-    dotted-length (slice_index octets 0) (slice_index octets 1) (slice_index octets 2) (slice_index octets 3) (small 0) (small 1) (small 2) (small 3)
+    dotted-length (slice_index octets 0) (slice_index octets 1) (slice_index octets 2)
+        (slice_index octets 3) (small 0) (small 1) (small 2) (small 3)
 
 -- ---- segments
 
@@ -63,24 +66,29 @@ unfolding net.hex
 hex-length n = omega (
   arith,
   length-drop (net.leading_zero_digits n)
-      (digit_char (n / 0x1000) ∷ digit_char (n / 0x100 % 16) ∷ digit_char (n / 0x10 % 16) ∷ digit_char (n % 16) ∷ []),
+      (digit_char (n / 0x1000) ∷ digit_char (n / 0x100 % 16) ∷ digit_char (n / 0x10 % 16)
+          ∷ digit_char (n % 16) ∷ []),
 )
 
-behind-length : (segments : List ℕ) → length (flat_map (λ t. codes ":" ++ net.hex t) segments) ≤ 5 * length segments
+behind-length : (segments : List ℕ)
+    → length (flat_map (λ t. codes ":" ++ net.hex t) segments) ≤ 5 * length segments
 behind-length [] = omega arith
 behind-length (segment ∷ segments) =
     let first = hex-length segment in
     let others = behind-length segments in
-    omega (arith, first, others, length-append (net.hex segment) (flat_map (λ t. codes ":" ++ net.hex t) segments))
+    omega (arith, first, others, length-append (net.hex segment)
+        (flat_map (λ t. codes ":" ++ net.hex t) segments))
 
 groups-length : (segments : List ℕ) → length (net.groups_text segments) ≤ 5 * length segments
 groups-length [] = omega arith
 groups-length (segment ∷ segments) =
     let first = hex-length segment in
     let others = behind-length segments in
-    omega (arith, first, others, length-append (net.hex segment) (flat_map (λ t. codes ":" ++ net.hex t) segments))
+    omega (arith, first, others, length-append (net.hex segment)
+        (flat_map (λ t. codes ":" ++ net.hex t) segments))
 
-compressed-length : (segments : List ℕ) (run : ℕ × ℕ) → length (net.compressed_text segments run) ≤ 10 * length segments + 2
+compressed-length : (segments : List ℕ) (run : ℕ × ℕ)
+    → length (net.compressed_text segments run) ≤ 10 * length segments + 2
 compressed-length segments run =
     let before = take run.0 segments in
     let behind = drop (run.0 + run.1) segments in
@@ -89,22 +97,29 @@ compressed-length segments run =
     let few_before = length-take run.0 segments in
     let few_behind = length-drop (run.0 + run.1) segments in
     let whole = groups-length segments in
-    elim (nat_lt 1 run.1) as (λ long. length (cond long (net.groups_text before ++ codes "::" ++ net.groups_text behind) (net.groups_text segments)) ≤ 10 * length segments + 2) [
+    elim (nat_lt 1 run.1) as
+        (λ long. length
+        (cond long (net.groups_text before ++ codes "::" ++ net.groups_text behind)
+        (net.groups_text segments)) ≤ 10 * length segments + 2) [
       | true ↦ grind (arith, length-append)
       | false ↦ omega arith
     ]
 
-colon_hex-length : (segments : List ℕ) → length (net.hex_groups_text segments) ≤ 10 * length segments + 2
+colon_hex-length : (segments : List ℕ)
+    → length (net.hex_groups_text segments) ≤ 10 * length segments + 2
 unfolding net.hex_groups_text
 colon_hex-length segments = compressed-length segments (net.longest_zero_run segments)
 
-pub ipv6-length : (octets : List ℕ) → length octets ≡ 16 → AreOctets octets → length (ipv6_text octets) ≤ 82
+pub ipv6-length : (octets : List ℕ) → length octets ≡ 16 → AreOctets octets
+    → length (ipv6_text octets) ≤ 82
 unfolding net.ipv6_text
 ipv6-length octets sixteen are =
     let segments = segments_of octets in
     let few = segments-length octets in
     let dotted = net.ipv4_text (octets_of (drop 6 segments)) in
-    let mapped = ipv4-length (octets_of (drop 6 segments)) (segments-octets (drop 6 segments) (segments-drop 6 segments (segments-small octets are))) in
+    let mapped = ipv4-length (octets_of (drop 6 segments))
+        (segments-octets (drop 6 segments) (segments-drop 6 segments (segments-small octets are)))
+        in
     let plain = colon_hex-length segments in
     elim (bytes_eq (take 6 segments) (0 ∷ 0 ∷ 0 ∷ 0 ∷ 0 ∷ 0xffff ∷ []))
     as (λ is. length (cond is (codes "::ffff:" ++ dotted) (net.hex_groups_text segments)) ≤ 82) [

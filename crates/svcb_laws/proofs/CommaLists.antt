@@ -12,10 +12,12 @@ use Rattle.svcb_laws.specs.ParamTextLaws.{HasNoComma, CommaItemsExact}
 no_comma : (c : ℕ) → c ≢ 44 → (c == 44) ≡ false
 no_comma c other = grind (arith, nat_tests)
 
-comma_pieces-item : (item rest : List ℕ) → HasNoComma item → comma_pieces (item ++ 44 ∷ rest) ≡ item ∷ comma_pieces rest
+comma_pieces-item : (item rest : List ℕ) → HasNoComma item
+    → comma_pieces (item ++ 44 ∷ rest) ≡ item ∷ comma_pieces rest
 comma_pieces-item [] rest none = refl
 comma_pieces-item (c ∷ item) rest none =
-    ap (λ b. cond b ([] ∷ comma_pieces (item ++ 44 ∷ rest)) (onto_piece c (comma_pieces (item ++ 44 ∷ rest)))) (no_comma c none.0)
+    ap (λ b. cond b ([] ∷ comma_pieces (item ++ 44 ∷ rest))
+        (onto_piece c (comma_pieces (item ++ 44 ∷ rest)))) (no_comma c none.0)
     ∙ ap (onto_piece c) (comma_pieces-item item rest none.1)
 
 comma_pieces-last : (item : List ℕ) → HasNoComma item → comma_pieces item ≡ item ∷ []
@@ -36,18 +38,22 @@ comma_items-some [] some = absurd (omega arith)
 comma_items-some (c ∷ text) some = refl
 
 -- joined items are split
-comma_items-join : (item : List ℕ) (items : List (List ℕ)) → Each HasNoComma (item ∷ items) → 0 < length (join_with_byte 44 (item ∷ items))
+comma_items-join : (item : List ℕ) (items : List (List ℕ)) → Each HasNoComma (item ∷ items)
+    → 0 < length (join_with_byte 44 (item ∷ items))
     → comma_items (join_with_byte 44 (item ∷ items)) ≡ item ∷ items
-comma_items-join item items none some = comma_items-some (join_with_byte 44 (item ∷ items)) some ∙ comma_pieces-join item items none
+comma_items-join item items none some =
+    comma_items-some (join_with_byte 44 (item ∷ items)) some ∙ comma_pieces-join item items none
 
 -- ---- a text that is split
 
-onto_piece-join : (c : ℕ) (pieces : List (List ℕ)) → join_with_byte 44 (onto_piece c pieces) ≡ c ∷ join_with_byte 44 pieces
+onto_piece-join : (c : ℕ) (pieces : List (List ℕ))
+    → join_with_byte 44 (onto_piece c pieces) ≡ c ∷ join_with_byte 44 pieces
 onto_piece-join c [] = refl
 onto_piece-join c (piece ∷ []) = refl
 onto_piece-join c (piece ∷ next ∷ pieces) = refl
 
-onto_piece-no_comma : (c : ℕ) (pieces : List (List ℕ)) → c ≢ 44 → Each HasNoComma pieces → Each HasNoComma (onto_piece c pieces)
+onto_piece-no_comma : (c : ℕ) (pieces : List (List ℕ)) → c ≢ 44 → Each HasNoComma pieces
+    → Each HasNoComma (onto_piece c pieces)
 onto_piece-no_comma c [] other none = ((other, tt), tt)
 onto_piece-no_comma c (piece ∷ pieces) other none = ((other, none.0), none.1)
 
@@ -58,43 +64,58 @@ onto_piece-some c (piece ∷ pieces) = omega arith
 some_pieces : (text : List ℕ) → 0 < length (comma_pieces text)
 some_pieces [] = omega arith
 some_pieces (c ∷ text) =
-    elim (c == 44) as (λ b. 0 < length (cond b ([] ∷ comma_pieces text) (onto_piece c (comma_pieces text)))) [
+    elim (c == 44) as
+        (λ b. 0 < length (cond b ([] ∷ comma_pieces text) (onto_piece c (comma_pieces text)))) [
       | true ↦ omega arith
       | false ↦ onto_piece-some c (comma_pieces text)
     ]
 
-behind_comma : (pieces : List (List ℕ)) → 0 < length pieces → join_with_byte 44 ([] ∷ pieces) ≡ 44 ∷ join_with_byte 44 pieces
+behind_comma : (pieces : List (List ℕ)) → 0 < length pieces
+    → join_with_byte 44 ([] ∷ pieces) ≡ 44 ∷ join_with_byte 44 pieces
 behind_comma [] some = absurd (omega arith)
 behind_comma (piece ∷ pieces) some = refl
 
 -- the pieces give the text back, and none of them has a comma
-pieces-exact : (text : List ℕ) → (join_with_byte 44 (comma_pieces text) ≡ text) × Each HasNoComma (comma_pieces text)
+pieces-exact : (text : List ℕ) → (join_with_byte 44 (comma_pieces text) ≡ text)
+    × Each HasNoComma (comma_pieces text)
 pieces-exact [] = (refl, (tt, tt))
 pieces-exact (c ∷ text) =
     let behind = pieces-exact text in
     elim (c == 44) as (λ b. (c == 44) ≡ b
-    → (join_with_byte 44 (cond b ([] ∷ comma_pieces text) (onto_piece c (comma_pieces text))) ≡ c ∷ text)
+    → (join_with_byte 44 (cond b ([] ∷ comma_pieces text) (onto_piece c (comma_pieces text)))
+    ≡ c ∷ text)
     × Each HasNoComma (cond b ([] ∷ comma_pieces text) (onto_piece c (comma_pieces text)))) [
       | true ↦ λ is.
           let comma : c ≡ 44 = grind (arith, nat_tests) in
-          (behind_comma (comma_pieces text) (some_pieces text) ∙ ap (λ (tail : List ℕ). 44 ∷ tail) behind.0 ∙ ap (λ d. d ∷ text) (sym comma), (tt, behind.1))
+          (behind_comma (comma_pieces text) (some_pieces text)
+              ∙ ap (λ (tail : List ℕ). 44 ∷ tail) behind.0
+              ∙ ap (λ d. d ∷ text) (sym comma), (tt, behind.1))
       | false ↦ λ is.
           let other : c ≢ 44 = grind (arith, nat_tests) in
-          (onto_piece-join c (comma_pieces text) ∙ ap (λ (tail : List ℕ). c ∷ tail) behind.0, onto_piece-no_comma c (comma_pieces text) other behind.1)
+          (onto_piece-join c (comma_pieces text)
+              ∙ ap (λ (tail : List ℕ). c ∷ tail) behind.0, onto_piece-no_comma c
+              (comma_pieces text) other behind.1)
     ] refl
 
-comma_items-are : (text : List ℕ) → Each HasNoComma (comma_items text) × (text ≡ join_with_byte 44 (comma_items text)) × (0 < length (comma_items text) → 0 < length text)
+comma_items-are : (text : List ℕ) → Each HasNoComma (comma_items text)
+    × (text ≡ join_with_byte 44 (comma_items text))
+    × (0 < length (comma_items text) → 0 < length text)
 comma_items-are [] = (tt, refl, λ some. some)
-comma_items-are (c ∷ text) = let are = pieces-exact (c ∷ text) in (are.1, sym are.0, λ some. omega arith)
+comma_items-are (c ∷ text) = let are = pieces-exact (c ∷ text)
+    in (are.1, sym are.0, λ some. omega arith)
 
-comma_items-of : (text : List ℕ) (items : List (List ℕ)) → Each HasNoComma items → text ≡ join_with_byte 44 items → (0 < length items → 0 < length text)
+comma_items-of : (text : List ℕ) (items : List (List ℕ)) → Each HasNoComma items
+    → text ≡ join_with_byte 44 items → (0 < length items → 0 < length text)
     → comma_items text ≡ items
 comma_items-of text [] none joined some = ap comma_items joined
 comma_items-of text (item ∷ items) none joined some =
-    ap comma_items joined ∙ comma_items-join item items none (subst (λ (t : List ℕ). 0 < length t) joined (some (omega arith)))
+    ap comma_items joined
+        ∙ comma_items-join item items none
+        (subst (λ (t : List ℕ). 0 < length t) joined (some (omega arith)))
 
 pub comma_items_exact : CommaItemsExact
 comma_items_exact text items = (
-  λ split. subst (λ (is : List (List ℕ)). Each HasNoComma is × (text ≡ join_with_byte 44 is) × (0 < length is → 0 < length text)) split (comma_items-are text),
+  λ split. subst (λ (is : List (List ℕ)). Each HasNoComma is × (text ≡ join_with_byte 44 is)
+      × (0 < length is → 0 < length text)) split (comma_items-are text),
   λ are. comma_items-of text items are.0 are.1 are.2,
 )

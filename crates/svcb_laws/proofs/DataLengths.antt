@@ -15,7 +15,8 @@ use Rattle.svcb_laws.proofs.ValueLengths.{pair-length}
 
 -- ---- the target
 
-labels-length : (labels : List (List ℕ)) → length (flat_map (λ l. printed_label l ++ 46 ∷ []) labels) + 4 ≤ 4 * length (name_wire labels)
+labels-length : (labels : List (List ℕ))
+    → length (flat_map (λ l. printed_label l ++ 46 ∷ []) labels) + 4 ≤ 4 * length (name_wire labels)
 labels-length [] = omega arith
 labels-length (label ∷ labels) =
     let first = label-length label in
@@ -26,16 +27,19 @@ labels-length (label ∷ labels) =
       others,
       length-append (printed_label label) (46 ∷ []),
       length-append label (name_wire labels),
-      length-append (printed_label label ++ 46 ∷ []) (flat_map (λ l. printed_label l ++ 46 ∷ []) labels),
+      length-append (printed_label label ++ 46 ∷ [])
+          (flat_map (λ l. printed_label l ++ 46 ∷ []) labels),
     )
 
-pub target-length : (labels : List (List ℕ)) → length (printed_name_with_dot labels) ≤ 4 * length (name_wire labels)
+pub target-length : (labels : List (List ℕ))
+    → length (printed_name_with_dot labels) ≤ 4 * length (name_wire labels)
 target-length [] = omega arith
 target-length (label ∷ labels) = let all = labels-length (label ∷ labels) in omega arith
 
 -- ---- the parameters
 
-texts-length : (all pairs : Pairs) (least : ℕ) → Ascends least pairs → HaveOctets pairs → room (map (pair_printed all) pairs) ≤ 11 * length (pairs_wire pairs)
+texts-length : (all pairs : Pairs) (least : ℕ) → Ascends least pairs → HaveOctets pairs
+    → room (map (pair_printed all) pairs) ≤ 11 * length (pairs_wire pairs)
 texts-length all [] least up are = omega arith
 texts-length all (pair ∷ pairs) least up are =
     let first = pair-length all pair up.1 up.2 are.0 in
@@ -46,7 +50,8 @@ pub params-length : ParamsTextByOctets
 params-length pairs is are =
     let texts = texts-length pairs pairs 0 is are in
     let joined = join-length 32 (pair_texts pairs) in
-    subst (λ octets. length (params_printed pairs) ≤ 11 * length octets) (sym (wire-pairs pairs is)) (omega arith)
+    subst (λ octets. length (params_printed pairs) ≤ 11 * length octets)
+        (sym (wire-pairs pairs is)) (omega arith)
 
 -- ---- the data
 

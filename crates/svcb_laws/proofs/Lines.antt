@@ -15,15 +15,19 @@ EndsLine-line : (text : List ℕ) → EndsLine (text ++ []) → EndsLine ((text 
 EndsLine-line [] ends = refl
 EndsLine-line (c ∷ text) ends = ends
 
-spelled-ended : (pieces : List Piece) → flat_map piece_octets (ended pieces) ≡ flat_map piece_octets pieces ++ 10 ∷ []
+spelled-ended : (pieces : List Piece)
+    → flat_map piece_octets (ended pieces) ≡ flat_map piece_octets pieces ++ 10 ∷ []
 spelled-ended pieces = flat_map-append piece_octets pieces (LineEnd ∷ [])
 
-comment-line : (text : List ℕ) (pieces : List Piece) → IsComment text (flat_map piece_octets pieces ++ [])
+comment-line : (text : List ℕ) (pieces : List Piece)
+    → IsComment text (flat_map piece_octets pieces ++ [])
     → IsComment text (flat_map piece_octets (ended pieces) ++ [])
 comment-line text pieces is =
-    (is.0, subst (λ following. EndsLine (following ++ [])) (sym (spelled-ended pieces)) (EndsLine-line (flat_map piece_octets pieces) is.1))
+    (is.0, subst (λ following. EndsLine (following ++ [])) (sym (spelled-ended pieces))
+        (EndsLine-line (flat_map piece_octets pieces) is.1))
 
-tail-line : (pieces : List Piece) → IsTailRow (Unit {0}) [] pieces → IsTailRow (Unit {0}) [] (ended pieces)
+tail-line : (pieces : List Piece) → IsTailRow (Unit {0}) [] pieces
+    → IsTailRow (Unit {0}) [] (ended pieces)
 tail-line [] row = tt
 tail-line (Blank c ∷ pieces) row = (row.0, tail-line pieces row.1)
 tail-line (LineEnd ∷ pieces) row = tail-line pieces row
@@ -39,7 +43,8 @@ row-line (suc depth) [] row = absurd cc
 row-line depth (Blank c ∷ pieces) row = (row.0, row-line depth pieces row.1)
 row-line zero (LineEnd ∷ pieces) row = tail-line pieces row
 row-line (suc depth) (LineEnd ∷ pieces) row = row-line (suc depth) pieces row
-row-line depth (Comment text ∷ pieces) row = (comment-line text pieces row.0, row-line depth pieces row.1)
+row-line depth (Comment text ∷ pieces) row =
+    (comment-line text pieces row.0, row-line depth pieces row.1)
 row-line depth (Opening ∷ pieces) row = row-line (suc depth) pieces row
 row-line zero (Closing ∷ pieces) row = absurd row
 row-line (suc depth) (Closing ∷ pieces) row = row-line depth pieces row

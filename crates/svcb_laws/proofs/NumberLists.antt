@@ -28,19 +28,24 @@ same_test : (n m : ℕ) → (n == m) ≡ false → (m == n) ≡ false
 same_test n m other = grind (arith, nat_tests)
 
 -- a number in front of others is none before them
-new_behind : (before : List ℕ) (n : ℕ) (numbers : List ℕ) → AreNew before numbers → is_in numbers n ≡ false → AreNew (before ++ n ∷ []) numbers
+new_behind : (before : List ℕ) (n : ℕ) (numbers : List ℕ) → AreNew before numbers
+    → is_in numbers n ≡ false → AreNew (before ++ n ∷ []) numbers
 new_behind before n [] new other = tt
 new_behind before n (m ∷ numbers) new other =
     let parts = or_parts (m == n) (is_in numbers n) other in (
-      list_any-append (λ k. k == m) before (n ∷ []) ∙ or_false (is_in before m) (is_in (n ∷ []) m) new.0 (or_false (n == m) false (same_test m n parts.0) refl),
+      list_any-append (λ k. k == m) before (n ∷ [])
+          ∙ or_false (is_in before m) (is_in (n ∷ []) m) new.0
+          (or_false (n == m) false (same_test m n parts.0) refl),
       new_behind before n numbers new.1 parts.1,
     )
 
 -- and where it is one before them it isn't among them
-new_apart : (before : List ℕ) (n : ℕ) (numbers : List ℕ) → AreNew (before ++ n ∷ []) numbers → AreNew before numbers × (is_in numbers n ≡ false)
+new_apart : (before : List ℕ) (n : ℕ) (numbers : List ℕ) → AreNew (before ++ n ∷ []) numbers
+    → AreNew before numbers × (is_in numbers n ≡ false)
 new_apart before n [] new = (tt, refl)
 new_apart before n (m ∷ numbers) new =
-    let here = or_parts (is_in before m) (is_in (n ∷ []) m) (sym (list_any-append (λ k. k == m) before (n ∷ [])) ∙ new.0) in
+    let here = or_parts (is_in before m) (is_in (n ∷ []) m)
+        (sym (list_any-append (λ k. k == m) before (n ∷ [])) ∙ new.0) in
     let other = or_parts (n == m) false here.1 in
     let rest = new_apart before n numbers new.1 in
     ((here.0, rest.0), or_false (m == n) (is_in numbers n) (same_test n m other.0) rest.1)
@@ -52,9 +57,11 @@ none_before (n ∷ numbers) = (refl, none_before numbers)
 pub new_again : (before : List ℕ) (n : ℕ) → is_in before n ≡ false → new_item before n ≡ Ok n
 new_again before n new = ap (λ b. cond b (Err DuplicateItem) (Ok n)) new
 
-pub new_item-ok : (before : List ℕ) (n m : ℕ) → new_item before n ≡ Ok m → (n ≡ m) × (is_in before n ≡ false)
+pub new_item-ok : (before : List ℕ) (n m : ℕ) → new_item before n ≡ Ok m
+    → (n ≡ m) × (is_in before n ≡ false)
 new_item-ok before n m =
-    elim (is_in before n) as (λ b. is_in before n ≡ b → cond b (Err DuplicateItem) (Ok n) ≡ Ok m → (n ≡ m) × (is_in before n ≡ false)) [
+    elim (is_in before n) as (λ b. is_in before n ≡ b → cond b (Err DuplicateItem) (Ok n) ≡ Ok m
+        → (n ≡ m) × (is_in before n ≡ false)) [
       | true ↦ λ twice is. absurd cc
       | false ↦ λ new is. (cc, new)
     ] refl
@@ -63,24 +70,31 @@ new_item-ok before n m =
 abbrev pub IsNew : (ℕ → Type 0) → List ℕ → ℕ → Type 0
 IsNew P before n = P n × (is_in before n ≡ false)
 
-all_new-apart : (P : ℕ → Type 0) (before numbers : List ℕ) → AllNew (IsNew P) before numbers → Each P numbers × AreNew before numbers × (are_distinct numbers ≡ true)
+all_new-apart : (P : ℕ → Type 0) (before numbers : List ℕ) → AllNew (IsNew P) before numbers
+    → Each P numbers × AreNew before numbers × (are_distinct numbers ≡ true)
 all_new-apart P before [] new = (tt, tt, refl)
 all_new-apart P before (n ∷ numbers) new =
     let rest = all_new-apart P (before ++ n ∷ []) numbers new.1 in
     let apart = new_apart before n numbers rest.1 in
-    ((new.0.0, rest.0), (new.0.1, apart.0), and_from (not (is_in numbers n)) (are_distinct numbers) (ap not apart.1) rest.2)
+    ((new.0.0, rest.0), (new.0.1, apart.0), and_from (not (is_in numbers n)) (are_distinct numbers)
+        (ap not apart.1) rest.2)
 
 -- numbers that are each new to those before them are distinct
-pub all_new-distinct : (P : ℕ → Type 0) (numbers : List ℕ) → AllNew (IsNew P) [] numbers → Each P numbers × (are_distinct numbers ≡ true)
+pub all_new-distinct : (P : ℕ → Type 0) (numbers : List ℕ) → AllNew (IsNew P) [] numbers
+    → Each P numbers × (are_distinct numbers ≡ true)
 all_new-distinct P numbers new = let apart = all_new-apart P [] numbers new in (apart.0, apart.2)
 
-apart-all_new : (P : ℕ → Type 0) (before numbers : List ℕ) → Each P numbers → AreNew before numbers → are_distinct numbers ≡ true → AllNew (IsNew P) before numbers
+apart-all_new : (P : ℕ → Type 0) (before numbers : List ℕ) → Each P numbers → AreNew before numbers
+    → are_distinct numbers ≡ true → AllNew (IsNew P) before numbers
 apart-all_new P before [] are new distinct = tt
 apart-all_new P before (n ∷ numbers) are new distinct =
     let parts = and_parts (not (is_in numbers n)) (are_distinct numbers) distinct in
     let other = not_true (is_in numbers n) parts.0 in
-    ((are.0, new.0), apart-all_new P (before ++ n ∷ []) numbers are.1 (new_behind before n numbers new.1 other) parts.1)
+    ((are.0, new.0), apart-all_new P (before ++ n ∷ []) numbers are.1
+        (new_behind before n numbers new.1 other) parts.1)
 
 -- and distinct numbers are
-pub distinct-all_new : (P : ℕ → Type 0) (numbers : List ℕ) → Each P numbers → are_distinct numbers ≡ true → AllNew (IsNew P) [] numbers
-distinct-all_new P numbers are distinct = apart-all_new P [] numbers are (none_before numbers) distinct
+pub distinct-all_new : (P : ℕ → Type 0) (numbers : List ℕ) → Each P numbers
+    → are_distinct numbers ≡ true → AllNew (IsNew P) [] numbers
+distinct-all_new P numbers are distinct =
+    apart-all_new P [] numbers are (none_before numbers) distinct

@@ -38,7 +38,9 @@ digit-of_key c digit = grind (arith, nat_tests)
 
 digits-of_key : (digits : List ℕ) → AllDigits 10 digits → AreOfKey digits
 digits-of_key [] are = refl
-digits-of_key (c ∷ digits) are = and_from (is_key_octet c) (list_all is_key_octet digits) (digit-of_key c (digit_from_value c are.0)) (digits-of_key digits are.1)
+digits-of_key (c ∷ digits) are =
+    and_from (is_key_octet c) (list_all is_key_octet digits)
+    (digit-of_key c (digit_from_value c are.0)) (digits-of_key digits are.1)
 
 -- the text is that of a key under which any octets stand
 record IsOpaqueName (key : ℕ) (name : List ℕ) : Type 0 where
@@ -50,7 +52,8 @@ record IsOpaqueName (key : ℕ) (name : List ℕ) : Type 0 where
 generic_name : (key : ℕ) → key < 65536 → IsOpaqueName key (codes "key" ++ decimal key)
 generic_name key small =
     let is = decimal_is_IsNumeral key (omega arith) in
-    let found : generic_key (codes "key" ++ decimal key) ≡ Some key = spelled_number-decimal 65536 key small (omega arith) in
+    let found : generic_key (codes "key" ++ decimal key) ≡ Some key =
+        spelled_number-decimal 65536 key small (omega arith) in
     record {
       some = omega arith;
       of_key = digits-of_key (decimal key) is.0.1;
@@ -77,14 +80,19 @@ no_mnemonic key above =
 -- the name of a key without a type
 key_name-opaque : (key : ℕ) → key < 65536 → 9 < key → IsOpaqueName key (key_name key)
 key_name-opaque key small above = elim (cases_lt 12 key) [
-  | inl more ↦ subst (λ (o : Option (List ℕ)). IsOpaqueName key (unwrap_or o (codes "key" ++ decimal key))) (sym (no_mnemonic key more)) (generic_name key small)
+  | inl more ↦ subst
+      (λ (o : Option (List ℕ)). IsOpaqueName key (unwrap_or o (codes "key" ++ decimal key)))
+      (sym (no_mnemonic key more)) (generic_name key small)
   | inr most ↦ elim (cases_eq 10 key) [
-    | inl ten ↦ subst (λ (k : ℕ). IsOpaqueName k (key_name k)) ten (record { some = omega arith; of_key = refl; reads = λ text. refl })
+    | inl ten ↦ subst (λ (k : ℕ). IsOpaqueName k (key_name k)) ten
+        (record { some = omega arith; of_key = refl; reads = λ text. refl })
     | inr not_ten ↦ elim (cases_eq 11 key) [
-      | inl eleven ↦ subst (λ (k : ℕ). IsOpaqueName k (key_name k)) eleven (record { some = omega arith; of_key = refl; reads = λ text. refl })
+      | inl eleven ↦ subst (λ (k : ℕ). IsOpaqueName k (key_name k)) eleven
+          (record { some = omega arith; of_key = refl; reads = λ text. refl })
       | inr not_eleven ↦
           let twelve : 12 ≡ key = omega arith in
-          subst (λ (k : ℕ). IsOpaqueName k (key_name k)) twelve (record { some = omega arith; of_key = refl; reads = λ text. refl })
+          subst (λ (k : ℕ). IsOpaqueName k (key_name k)) twelve
+              (record { some = omega arith; of_key = refl; reads = λ text. refl })
     ]
   ]
 ]
@@ -93,19 +101,23 @@ opaque_name : (key : ℕ) → key < 65536 → IsOpaqueName key (opaque_key_name 
 opaque_name key small = elim (cases_lt key 10) [
   | inl few ↦
       let typed : nat_lt key 10 ≡ true = grind (arith, nat_tests) in
-      subst (λ b. IsOpaqueName key (cond b (codes "key" ++ decimal key) (key_name key))) (sym typed) (generic_name key small)
+      subst (λ b. IsOpaqueName key (cond b (codes "key" ++ decimal key) (key_name key)))
+          (sym typed) (generic_name key small)
   | inr many ↦
       let other : nat_lt key 10 ≡ false = grind (arith, nat_tests) in
-      subst (λ b. IsOpaqueName key (cond b (codes "key" ++ decimal key) (key_name key))) (sym other) (key_name-opaque key small (omega arith))
+      subst (λ b. IsOpaqueName key (cond b (codes "key" ++ decimal key) (key_name key)))
+          (sym other) (key_name-opaque key small (omega arith))
 ]
 
 -- ---- a key with a text
 
 -- a key and a text, or the key alone where there is none
-pub with_text_again : (key text octets : List ℕ) (value : Value) → 0 < length key → AreOfKey key → IsBareText text octets
+pub with_text_again : (key text octets : List ℕ) (value : Value) → 0 < length key → AreOfKey key
+    → IsBareText text octets
     → value_behind key octets ≡ Ok value → IsValueText (with_text key text) value
 with_text_again key [] octets value some are bare spelled =
-    bare_text_of key key value (bare-plain key (ArePlain-key key are)) (spells-key key some are ∙ ap (value_behind key) (no_octets octets bare) ∙ spelled)
+    bare_text_of key key value (bare-plain key (ArePlain-key key are))
+        (spells-key key some are ∙ ap (value_behind key) (no_octets octets bare) ∙ spelled)
   where
     no_octets : (octets : List ℕ) → IsBareText [] octets → [] ≡ octets
     no_octets octets ([], are, is, have) = have
@@ -121,9 +133,11 @@ with_text_again key (c ∷ text) octets value some are bare spelled =
     (spells-behind key octets are ∙ spelled))
 
 -- the text of any octets is read back
-pub opaque_again : (key : ℕ) (octets : List ℕ) → key < 65536 → AreOctets octets → length octets < 65536
+pub opaque_again : (key : ℕ) (octets : List ℕ) → key < 65536 → AreOctets octets
+    → length octets < 65536
     → IsValueText (opaque_text key octets) (Unknown key octets)
 opaque_again key octets small are few =
     let name = opaque_name key small in
-    with_text_again (opaque_key_name key) (printed_octets octets) octets (Unknown key octets) name.some name.of_key (bare-octets octets are)
+    with_text_again (opaque_key_name key) (printed_octets octets) octets
+        (Unknown key octets) name.some name.of_key (bare-octets octets are)
     (name.reads octets ∙ short_again (Unknown key octets) few)

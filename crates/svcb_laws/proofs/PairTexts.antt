@@ -13,7 +13,9 @@ use Rattle.svcb_laws.proofs.ValuesAgain.{typed_again}
 
 -- the value whose text a pair's is: that of the type, where it has a text of its own
 abbrev pub pair_value : Pairs → Pair → Value
-pair_value pairs pair = cond (has_own_text pairs (value_in pair.0 pair.1)) (value_in pair.0 pair.1) (Unknown pair.0 pair.1)
+pair_value pairs pair =
+    cond (has_own_text pairs (value_in pair.0 pair.1)) (value_in pair.0 pair.1)
+    (Unknown pair.0 pair.1)
 
 -- the text spells the value, which has the pair's key and octets
 pub record IsPairText (text : List ℕ) (pair : Pair) (value : Value) : Type 0 where
@@ -32,13 +34,18 @@ pub record IsPairOfMap (pair : Pair) : Type 0 where
   pub few : length pair.1 < 65536
   pub octets : AreOctets pair.1
 
-pub pair_value_again : (pairs : Pairs) (pair : Pair) → IsPairOfMap pair → IsPairText (pair_printed pairs pair) pair (pair_value pairs pair)
+pub pair_value_again : (pairs : Pairs) (pair : Pair) → IsPairOfMap pair
+    → IsPairText (pair_printed pairs pair) pair (pair_value pairs pair)
 pair_value_again pairs pair is =
-    let found : IsIn pair.0 pair.1 (value_in pair.0 pair.1) = values_in_octets pair.0 pair.1 is.key is.few (each_octet pair.1 is.octets) in
-    elim (has_own_text pairs (value_in pair.0 pair.1)) as (λ own. has_own_text pairs (value_in pair.0 pair.1) ≡ own
-    → IsPairText (cond own (value_printed (value_in pair.0 pair.1)) (opaque_text pair.0 pair.1)) pair (cond own (value_in pair.0 pair.1) (Unknown pair.0 pair.1))) [
+    let found : IsIn pair.0 pair.1 (value_in pair.0 pair.1) =
+        values_in_octets pair.0 pair.1 is.key is.few (each_octet pair.1 is.octets) in
+    elim (has_own_text pairs (value_in pair.0 pair.1)) as
+        (λ own. has_own_text pairs (value_in pair.0 pair.1) ≡ own
+    → IsPairText (cond own (value_printed (value_in pair.0 pair.1)) (opaque_text pair.0 pair.1))
+    pair (cond own (value_in pair.0 pair.1) (Unknown pair.0 pair.1))) [
       | true ↦ λ own. record {
-        spelled = typed_again pairs (value_in pair.0 pair.1) found.0 (subst AreOctets (sym found.2) is.octets) own;
+        spelled = typed_again pairs (value_in pair.0 pair.1) found.0
+            (subst AreOctets (sym found.2) is.octets) own;
         is_value = found.0;
         key = found.1;
         octets = found.2;
@@ -52,7 +59,8 @@ pair_value_again pairs pair is =
     ] refl
 
 -- each pair of a map is such a pair
-pair-Contains : (least : ℕ) (pairs : Pairs) (pair : Pair) → Ascends least pairs → HaveOctets pairs → Contains pairs pair → IsPairOfMap pair
+pair-Contains : (least : ℕ) (pairs : Pairs) (pair : Pair) → Ascends least pairs → HaveOctets pairs
+    → Contains pairs pair → IsPairOfMap pair
 pair-Contains least [] pair ascends octets (k, below, is) = absurd (omega (arith, below))
 pair-Contains least (first ∷ pairs) pair ascends octets (zero, below, is) =
     subst IsPairOfMap is (record { key = ascends.1; few = ascends.2; octets = octets.0 })

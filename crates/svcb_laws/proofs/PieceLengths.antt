@@ -1,5 +1,5 @@
--- How long the pieces of a text are: octets, numbers, keys, base64, and items between separators. Offered to the crates
--- above: `number-length`, `octet-length` and `base64-length`.
+-- How long the pieces of a text are: octets, numbers, keys, base64, and items between separators.
+-- Offered to the crates above: `number-length`, `octet-length` and `base64-length`.
 use Rattle.std.proofs.Common.{◌≡◌, ℕ, ◌+◌, ◌*◌, ◌<◌, ◌≤◌, Bool, true, false, cond, List, [], ◌∷◌, ◌++◌, length, codes, Some, refl, arith, length-append}
 use Rattle.std.proofs.lemmas.Bool.{and_parts}
 use Rattle.std.proofs.lemmas.Bool.Decides.{nat_tests}
@@ -24,12 +24,14 @@ written-length (Escaped octet) = omega arith
 written-length (Decimal octet) = omega arith
 
 module _ (special : ℕ → Bool) where
-  spelled-length : (octets : List ℕ) → length (flat_map (printed_octet special) octets) ≤ 4 * length octets
+  spelled-length : (octets : List ℕ)
+      → length (flat_map (printed_octet special) octets) ≤ 4 * length octets
   spelled-length [] = omega arith
   spelled-length (octet ∷ octets) =
       let first = written-length (printed_as special octet) in
       let others = spelled-length octets in
-      omega (arith, first, others, length-append (printed_octet special octet) (flat_map (printed_octet special) octets))
+      omega (arith, first, others, length-append (printed_octet special octet)
+          (flat_map (printed_octet special) octets))
 
 pub octets-length : (octets : List ℕ) → length (printed_octets octets) ≤ 4 * length octets
 octets-length octets = spelled-length is_special octets
@@ -46,7 +48,8 @@ item-length [] = omega arith
 item-length (c ∷ item) =
     let first = escape-length (is_escaped_in_item c) c in
     let others = item-length item in
-    omega (arith, first, others, length-append (cond (is_escaped_in_item c) (92 ∷ c ∷ []) (c ∷ [])) (escaped_item item))
+    omega (arith, first, others, length-append (cond (is_escaped_in_item c) (92 ∷ c ∷ []) (c ∷ []))
+        (escaped_item item))
 
 -- ---- numbers and keys
 
@@ -57,13 +60,16 @@ pub octet-length : (n : ℕ) → n < 256 → length (decimal n) ≤ 3
 octet-length n small = length-decimal-le 3 n (omega arith) (omega arith) (omega arith)
 
 -- a text of a table, or else another, where none of them is longer than a key
-mnemonic-length : (rows : List (ℕ × List ℕ)) (n : ℕ) (text : List ℕ) → list_all (λ row. nat_lt (length row.1) 21) rows ≡ true → length text ≤ 20
+mnemonic-length : (rows : List (ℕ × List ℕ)) (n : ℕ) (text : List ℕ)
+    → list_all (λ row. nat_lt (length row.1) 21) rows ≡ true → length text ≤ 20
     → length (unwrap_or (mnemonic_of rows n) text) ≤ 20
 mnemonic-length [] n text short few = few
 mnemonic-length (row ∷ rows) n text short few =
-    let both = and_parts (nat_lt (length row.1) 21) (list_all (λ row. nat_lt (length row.1) 21) rows) short in
+    let both = and_parts (nat_lt (length row.1) 21)
+        (list_all (λ row. nat_lt (length row.1) 21) rows) short in
     let own : length row.1 ≤ 20 = grind (arith, nat_tests) in
-    elim (row.0 == n) as (λ is. length (unwrap_or (cond is (Some row.1) (mnemonic_of rows n)) text) ≤ 20) [
+    elim (row.0 == n) as
+        (λ is. length (unwrap_or (cond is (Some row.1) (mnemonic_of rows n)) text) ≤ 20) [
       | true ↦ own
       | false ↦ mnemonic-length rows n text both.1 few
     ]
@@ -76,7 +82,8 @@ key-length key small =
 pub opaque_key-length : (key : ℕ) → key < 65536 → length (opaque_key_name key) ≤ 20
 opaque_key-length key small =
     let number = number-length key small in
-    elim (nat_lt key 10) as (λ typed. length (cond typed (codes "key" ++ decimal key) (key_name key)) ≤ 20) [
+    elim (nat_lt key 10) as
+        (λ typed. length (cond typed (codes "key" ++ decimal key) (key_name key)) ≤ 20) [
       | true ↦ omega arith
       | false ↦ key-length key small
     ]
@@ -94,12 +101,16 @@ pub base64-length : (octets : List ℕ) → length (base64_text octets) ≤ 2 * 
 base64-length octets =
     let symbols = symbols-length letters octets in
     let padding = length-replicate {A = ℕ} (padding_len (length octets)) 61 in
-    omega (arith, symbols, padding, length-append (encode_symbols letters octets) (replicate (padding_len (length octets)) 61))
+    omega (arith, symbols, padding, length-append (encode_symbols letters octets)
+        (replicate (padding_len (length octets)) 61))
 
 -- ---- a key and what is behind it
 
-pub with_text-length : (key text : List ℕ) → length (with_text key text) ≤ length key + length text + 1
-with_text-length key text = elim (length text == 0) as (λ none. length (cond none key (key ++ 61 ∷ text)) ≤ length key + length text + 1) [
+pub with_text-length : (key text : List ℕ)
+    → length (with_text key text) ≤ length key + length text + 1
+with_text-length key text =
+    elim (length text == 0) as
+    (λ none. length (cond none key (key ++ 61 ∷ text)) ≤ length key + length text + 1) [
   | true ↦ omega arith
   | false ↦ omega (arith, length-append key (61 ∷ text))
 ]
@@ -117,13 +128,15 @@ join-length c (item ∷ next ∷ items) =
     omega (arith, others, length-append item (c ∷ join_with_byte c (next ∷ items)))
 
 -- the separator before the first item is the one that stands behind no last item
-join-short : (c : ℕ) (item : List ℕ) (items : List (List ℕ)) → length (join_with_byte c (item ∷ items)) + 1 ≤ room (item ∷ items)
+join-short : (c : ℕ) (item : List ℕ) (items : List (List ℕ))
+    → length (join_with_byte c (item ∷ items)) + 1 ≤ room (item ∷ items)
 join-short c item [] = omega arith
 join-short c item (next ∷ items) =
     let others = join-short c next items in
     omega (arith, others, length-append item (c ∷ join_with_byte c (next ∷ items)))
 
-pub with_items-length : (key : List ℕ) (items : List (List ℕ)) → length (with_items key items) ≤ length key + room items
+pub with_items-length : (key : List ℕ) (items : List (List ℕ))
+    → length (with_items key items) ≤ length key + room items
 with_items-length key [] = omega arith
 with_items-length key (item ∷ items) =
     let list = join-short 44 item items in

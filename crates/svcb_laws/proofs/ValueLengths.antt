@@ -21,14 +21,16 @@ use Rattle.svcb_laws.proofs.PieceLengths.{octets-length, item-length, number-len
 
 -- ---- items, each with a separator
 
-keys-length : (keys : List ℕ) → Each (λ key. key < 65536) keys → room (map key_name keys) ≤ 11 * length (numbers16_wire keys)
+keys-length : (keys : List ℕ) → Each (λ key. key < 65536) keys
+    → room (map key_name keys) ≤ 11 * length (numbers16_wire keys)
 keys-length [] small = omega arith
 keys-length (key ∷ keys) small =
     let first = key-length key small.0 in
     let others = keys-length keys small.1 in
     omega arith
 
-groups-length : (groups : List ℕ) → Each (λ group. group < 65536) groups → room (map decimal groups) ≤ 11 * length (numbers16_wire groups)
+groups-length : (groups : List ℕ) → Each (λ group. group < 65536) groups
+    → room (map decimal groups) ≤ 11 * length (numbers16_wire groups)
 groups-length [] small = omega arith
 groups-length (group ∷ groups) small =
     let first = number-length group small.0 in
@@ -38,7 +40,8 @@ groups-length (group ∷ groups) small =
 abbrev protocol_text : List ℕ → List ℕ
 protocol_text protocol = printed_octets (escaped_item protocol)
 
-protocols-length : (protocols : List (List ℕ)) → room (map protocol_text protocols) ≤ 11 * length (protocols_wire protocols)
+protocols-length : (protocols : List (List ℕ))
+    → room (map protocol_text protocols) ≤ 11 * length (protocols_wire protocols)
 protocols-length [] = omega arith
 protocols-length (protocol ∷ protocols) =
     let escaped = item-length protocol in
@@ -46,7 +49,8 @@ protocols-length (protocol ∷ protocols) =
     let others = protocols-length protocols in
     omega (arith, escaped, first, others, length-append protocol (protocols_wire protocols))
 
-ipv4s-length : (addresses : List (List ℕ)) → Each (λ address. length address ≡ 4) addresses → AreOctets (concat addresses)
+ipv4s-length : (addresses : List (List ℕ)) → Each (λ address. length address ≡ 4) addresses
+    → AreOctets (concat addresses)
     → room (map ipv4_text addresses) ≤ 11 * length (concat addresses)
 ipv4s-length [] four are = omega arith
 ipv4s-length (address ∷ addresses) four are =
@@ -56,7 +60,8 @@ ipv4s-length (address ∷ addresses) four are =
     let others = ipv4s-length addresses four.1 parts.1 in
     omega (arith, own, first, others, length-append address (concat addresses))
 
-ipv6s-length : (addresses : List (List ℕ)) → Each (λ address. length address ≡ 16) addresses → AreOctets (concat addresses)
+ipv6s-length : (addresses : List (List ℕ)) → Each (λ address. length address ≡ 16) addresses
+    → AreOctets (concat addresses)
     → room (map ipv6_text addresses) ≤ 11 * length (concat addresses)
 ipv6s-length [] sixteen are = omega arith
 ipv6s-length (address ∷ addresses) sixteen are =
@@ -68,7 +73,8 @@ ipv6s-length (address ∷ addresses) sixteen are =
 
 -- ---- values
 
-opaque-length : (key : ℕ) (octets : List ℕ) → key < 65536 → length (opaque_text key octets) ≤ 21 + 11 * length octets
+opaque-length : (key : ℕ) (octets : List ℕ) → key < 65536
+    → length (opaque_text key octets) ≤ 21 + 11 * length octets
 opaque-length key octets small =
     let name = opaque_key-length key small in
     let text = octets-length octets in
@@ -76,12 +82,15 @@ opaque-length key octets small =
     omega arith
 
 utf8-length : (octets : List ℕ) → length (utf8_or_printed octets) ≤ 4 * length octets
-utf8-length octets = elim (is_utf8 octets) as (λ plain. length (cond plain octets (printed_octets octets)) ≤ 4 * length octets) [
+utf8-length octets =
+    elim (is_utf8 octets) as
+    (λ plain. length (cond plain octets (printed_octets octets)) ≤ 4 * length octets) [
   | true ↦ omega arith
   | false ↦ octets-length octets
 ]
 
-value-length : (value : Value) → HasItems value → AreOctets (encode value) → length (value_printed value) ≤ 21 + 11 * length (encode value)
+value-length : (value : Value) → HasItems value → AreOctets (encode value)
+    → length (value_printed value) ≤ 21 + 11 * length (encode value)
 value-length (Mandatory keys) has are =
     let items = keys-length keys has in
     let list = with_items-length (codes "mandatory") (map key_name keys) in
@@ -117,13 +126,18 @@ value-length (Unknown key octets) has are = opaque-length key octets has
 
 -- ---- pairs
 
-pub pair-length : (pairs : Pairs) (pair : Pair) → pair.0 < 65536 → length pair.1 < 65536 → AreOctets pair.1
+pub pair-length : (pairs : Pairs) (pair : Pair) → pair.0 < 65536 → length pair.1 < 65536
+    → AreOctets pair.1
     → length (pair_printed pairs pair) ≤ 21 + 11 * length pair.1
 pair-length pairs pair small few are =
     let value = value_in pair.0 pair.1 in
-    let found : IsIn pair.0 pair.1 value = values_in_octets pair.0 pair.1 small few (each_octet pair.1 are) in
+    let found : IsIn pair.0 pair.1 value =
+        values_in_octets pair.0 pair.1 small few (each_octet pair.1 are) in
     let typed = value-length value found.0.0 (subst AreOctets (sym found.2) are) in
-    elim (has_own_text pairs value) as (λ own. length (cond own (value_printed value) (opaque_text pair.0 pair.1)) ≤ 21 + 11 * length pair.1) [
-      | true ↦ subst (λ octets. length (value_printed value) ≤ 21 + 11 * length octets) found.2 typed
+    elim (has_own_text pairs value) as
+        (λ own. length (cond own (value_printed value) (opaque_text pair.0 pair.1))
+        ≤ 21 + 11 * length pair.1) [
+      | true ↦ subst (λ octets. length (value_printed value) ≤ 21 + 11 * length octets) found.2
+          typed
       | false ↦ opaque-length pair.0 pair.1 small
     ]

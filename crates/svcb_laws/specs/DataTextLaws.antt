@@ -20,7 +20,8 @@ pub record IsRecordOfOctets (found : Record) : Type 0 where
 
 -- record data that was read of octets is such a record
 abbrev pub ReadIsData : Type 0
-ReadIsData = (message : List ℕ) (start len : ℕ) (found : Record) → AreOctets message → start + len ≤ length message
+ReadIsData = (message : List ℕ) (start len : ℕ) (found : Record) → AreOctets message
+    → start + len ≤ length message
     → read message start len ≡ Ok found → IsRecordOfOctets found
 
 -- behind any tokens, these are scanned as exactly this record, and all of them are taken
@@ -35,11 +36,13 @@ pub record IsRecordText (text : List ℕ) (found : Record) : Type 0 where
 
 -- the printed text of data is read back as that data
 abbrev pub DataTextReadBack : Type 0
-DataTextReadBack = (found : Record) → IsRecordOfOctets found → IsRecordText (svcb_printed found) found
+DataTextReadBack = (found : Record) → IsRecordOfOctets found
+    → IsRecordText (svcb_printed found) found
 
 -- and so is its line
 abbrev pub DataLineReadBack : Type 0
-DataLineReadBack = (found : Record) → IsRecordOfOctets found → IsRecordText (svcb_printed found ++ 10 ∷ []) found
+DataLineReadBack = (found : Record) → IsRecordOfOctets found
+    → IsRecordText (svcb_printed found ++ 10 ∷ []) found
 
 -- and its text in each layout
 abbrev pub DataLayoutReadBack : Type 0
@@ -48,4 +51,5 @@ DataLayoutReadBack = (kind : DisplayKind) (found : Record) → IsRecordOfOctets 
 
 -- a text and its line have the same tokens
 abbrev pub LineHasTokens : Type 0
-LineHasTokens = (text : List ℕ) (tokens : List (List Symbol)) → HasTokens text tokens → HasTokens (text ++ 10 ∷ []) tokens
+LineHasTokens = (text : List ℕ) (tokens : List (List Symbol)) → HasTokens text tokens
+    → HasTokens (text ++ 10 ∷ []) tokens

@@ -1,4 +1,5 @@
--- Laws of how long the texts of SVCB and HTTPS data are, which the functions of `src/laws.rt` state.
+-- Laws of how long the texts of SVCB and HTTPS data are, which the functions of `src/laws.rt`
+-- state.
 use Rattle.std.specs.Prelude.{◌*◌, ◌<◌, ◌≤◌, [], ◌∷◌, ◌++◌, length}
 use Rattle.svcb_spec.specs.Params.{Pairs, IsMap, wire}
 use Rattle.svcb_spec.specs.Records.{Record, rdata}
@@ -19,4 +20,5 @@ DataTextByOctets = (found : Record) → IsRecordOfOctets found
 
 -- so the line of the text, at most 720,886 octets, is shorter than 16,777,216
 abbrev pub DataLineFits : Type 0
-DataLineFits = (found : Record) → IsRecordOfOctets found → length (svcb_printed found ++ 10 ∷ []) < 16777216
+DataLineFits = (found : Record) → IsRecordOfOctets found
+    → length (svcb_printed found ++ 10 ∷ []) < 16777216

@@ -10,8 +10,8 @@ pub record IsProtocolLength (len : ℕ) : Type 0 where
   pub not_empty : 0 < len
   pub fits : len ≤ 255
 
--- A push of a protocol of `len` octets onto a value of `old` octets: done where the protocol is one and the value stays
--- within 65,535 octets, unless memory is wanting. There is no other error.
+-- A push of a protocol of `len` octets onto a value of `old` octets: done where the protocol is one
+-- and the value stays within 65,535 octets, unless memory is wanting. There is no other error.
 abbrev pub IsPushed : {X : Type 0} → Result X BuildAlpnError → ℕ → ℕ → Type 0
 IsPushed (Ok done) old len = IsProtocolLength len × (old + 1 + len ≤ 65535)
 IsPushed (Err InvalidProtocol) old len = IsProtocolLength len → ⊥

@@ -7,7 +7,8 @@ use Rattle.svcb_spec.proofs.WireLaws.{IsMap-insert, length-wire-insert, wire-pai
 use Rattle.svcb_pairs.specs.BuilderState.{IsBuilderState}
 
 -- no pairs
-pub no_pairs : (pairs : Pairs) (limit : ℕ) → pairs ≡ [] → limit < 2 ^ 31 → IsBuilderState pairs 0 limit
+pub no_pairs : (pairs : Pairs) (limit : ℕ) → pairs ≡ [] → limit < 2 ^ 31
+    → IsBuilderState pairs 0 limit
 no_pairs pairs limit none in_range =
     rw none
     (record {
@@ -27,8 +28,11 @@ AreShort-ascend least [] up = tt
 AreShort-ascend least (pair ∷ pairs) up = (up.2, AreShort-ascend (pair.0 + 1) pairs up.3)
 
 -- a new pair within the limit
-pub is_grown : (pairs pairs' : Pairs) (len limit key grown : ℕ) (value : List ℕ) → IsBuilderState pairs len limit → key < 65536 → length value < 65536 → value_at pairs key ≡ None
-    → pairs' ≡ insert_entry nat_cmp pairs key value → grown ≡ len + 4 + length value → grown ≤ limit → IsBuilderState pairs' grown limit
+pub is_grown : (pairs pairs' : Pairs) (len limit key grown : ℕ) (value : List ℕ)
+    → IsBuilderState pairs len limit → key < 65536 → length value < 65536
+    → value_at pairs key ≡ None
+    → pairs' ≡ insert_entry nat_cmp pairs key value → grown ≡ len + 4 + length value
+        → grown ≤ limit → IsBuilderState pairs' grown limit
 is_grown pairs pairs' len limit key grown value builder in_range fits absent is counted within =
     let longer = length-wire-insert pairs key value builder.is_map in_range fits absent in
     rw is

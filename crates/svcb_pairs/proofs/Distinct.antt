@@ -17,7 +17,8 @@ no_bits n = omega (arith, and_le_l 0 n)
 all_zero : (count i : ℕ) → slice_index (replicate count 0) i ≡ 0
 all_zero count i = elim (cases_lt i count) [
   | inl low ↦ get_or-replicate count i 0 0 low
-  | inr past ↦ get_or_past (replicate count 0) i 0 (omega (arith, length-replicate {A = ℕ} count 0, past))
+  | inr past ↦ get_or_past (replicate count 0) i 0
+      (omega (arith, length-replicate {A = ℕ} count 0, past))
 ]
 
 pub none_met : (count n : ℕ) → has_number (replicate count 0) n ≡ false
@@ -35,17 +36,24 @@ not_met words numbers = list_all (λ n. not (has_number words n)) numbers
 abbrev pub distinct_from : List ℕ → List ℕ → Bool
 distinct_from words numbers = are_distinct numbers && not_met words numbers
 
-all_new : (words : List ℕ) (numbers : List ℕ) → ((n : ℕ) → has_number words n ≡ false) → not_met words numbers ≡ true
+all_new : (words : List ℕ) (numbers : List ℕ) → ((n : ℕ) → has_number words n ≡ false)
+    → not_met words numbers ≡ true
 all_new words [] none = refl
-all_new words (n ∷ numbers) none = ap (λ b. not b && not_met words numbers) (none n) ∙ all_new words numbers none
+all_new words (n ∷ numbers) none =
+    ap (λ b. not b && not_met words numbers) (none n) ∙ all_new words numbers none
 
-pub distinct_at_first : (words numbers : List ℕ) → ((n : ℕ) → has_number words n ≡ false) → are_distinct numbers ≡ distinct_from words numbers
-distinct_at_first words numbers none = sym (ap (λ b. are_distinct numbers && b) (all_new words numbers none) ∙ and_true (are_distinct numbers))
+pub distinct_at_first : (words numbers : List ℕ) → ((n : ℕ) → has_number words n ≡ false)
+    → are_distinct numbers ≡ distinct_from words numbers
+distinct_at_first words numbers none =
+    sym (ap (λ b. are_distinct numbers && b) (all_new words numbers none)
+    ∙ and_true (are_distinct numbers))
 
-pub met_again : (words : List ℕ) (n : ℕ) (numbers : List ℕ) → has_number words n ≡ true → distinct_from words (n ∷ numbers) ≡ false
+pub met_again : (words : List ℕ) (n : ℕ) (numbers : List ℕ) → has_number words n ≡ true
+    → distinct_from words (n ∷ numbers) ≡ false
 met_again words n numbers met = and_right _ _ (ap (λ b. not b && not_met words numbers) met)
 
-two_tests : (e h a rest : Bool) → (not (e || h) && (not a && rest)) ≡ (not (e || a) && (not h && rest))
+two_tests : (e h a rest : Bool)
+    → (not (e || h) && (not a && rest)) ≡ (not (e || a) && (not h && rest))
 two_tests true h a rest = refl
 two_tests false true true rest = refl
 two_tests false true false rest = refl
@@ -57,19 +65,25 @@ three_tests true false rest = refl
 three_tests false true rest = refl
 three_tests false false rest = refl
 
-module _ (words more : List ℕ) (n : ℕ) (adds : (m : ℕ) → has_number more m ≡ ((n == m) || has_number words m)) where
-  not_met_more : (numbers : List ℕ) → not_met more numbers ≡ (not (list_any (λ m. m == n) numbers) && not_met words numbers)
+module _ (words more : List ℕ) (n : ℕ)
+    (adds : (m : ℕ) → has_number more m ≡ ((n == m) || has_number words m)) where
+  not_met_more : (numbers : List ℕ)
+      → not_met more numbers ≡ (not (list_any (λ m. m == n) numbers) && not_met words numbers)
   not_met_more [] = refl
   not_met_more (m ∷ numbers) =
-      let added : has_number more m ≡ ((m == n) || has_number words m) = adds m ∙ ap (λ b. b || has_number words m) (test_swap n m) in
+      let added : has_number more m ≡ ((m == n) || has_number words m) =
+          adds m ∙ ap (λ b. b || has_number words m) (test_swap n m) in
       ap (λ b. not b && not_met more numbers) added
       ∙ ap (λ b. not ((m == n) || has_number words m) && b) (not_met_more numbers)
-      ∙ two_tests (m == n) (has_number words m) (list_any (λ m. m == n) numbers) (not_met words numbers)
+      ∙ two_tests (m == n) (has_number words m) (list_any (λ m. m == n) numbers)
+      (not_met words numbers)
 
-  pub met_now : (numbers : List ℕ) → has_number words n ≡ false → distinct_from words (n ∷ numbers) ≡ distinct_from more numbers
+  pub met_now : (numbers : List ℕ) → has_number words n ≡ false
+      → distinct_from words (n ∷ numbers) ≡ distinct_from more numbers
   met_now numbers new =
       ap (λ b. are_distinct (n ∷ numbers) && (not b && not_met words numbers)) new
-      ∙ three_tests (not (list_any (λ m. m == n) numbers)) (are_distinct numbers) (not_met words numbers)
+      ∙ three_tests (not (list_any (λ m. m == n) numbers)) (are_distinct numbers)
+      (not_met words numbers)
       ∙ ap (λ b. are_distinct numbers && b) (sym (not_met_more numbers))
 
 pub ruleset distinct_rules = (distinct_at_first, met_again, met_now)

@@ -13,8 +13,10 @@ pub nothing_yet : (old : Sheet) (items : List Item) → LaysOut old items old it
 nothing_yet old items = record { ok = refl; err = λ new stops. stops; kind = refl }
 
 -- one more item
-pub next_laid : (old : Sheet) (items : List Item) (now : Sheet) (item : Item) (rest : List Item) (new : Sheet)
-    → LaysOut old items now (item ∷ rest) → new ≡ laid_out now (item ∷ []) → LaysOut old items new rest
+pub next_laid : (old : Sheet) (items : List Item) (now : Sheet) (item : Item) (rest : List Item)
+    (new : Sheet)
+    → LaysOut old items now (item ∷ rest) → new ≡ laid_out now (item ∷ [])
+        → LaysOut old items new rest
 next_laid old items now item rest new lays is =
     let next : LaysOut old items (laid_out now (item ∷ [])) rest = record {
       ok = lays.ok;
@@ -31,4 +33,5 @@ last_laid old items now item new lays is = (next_laid old items now item [] new 
 -- nothing more
 pub stops_here : (old : Sheet) (items : List Item) (now : Sheet) (rest : List Item) (new : Sheet)
     → LaysOut old items now rest → new ≡ now → StopsWithin old items new
-stops_here old items now rest new lays is = subst (StopsWithin old items) (sym is) (lays.err now (StopsWithin-start now rest))
+stops_here old items now rest new lays is =
+    subst (StopsWithin old items) (sym is) (lays.err now (StopsWithin-start now rest))

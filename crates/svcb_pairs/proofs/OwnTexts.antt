@@ -16,7 +16,8 @@ pub some_numbers : (octets : List ℕ) → has_some (numbers octets) ≡ not (le
 some_numbers [] = refl
 some_numbers (c ∷ octets) = there c octets
 
-pub some_parts : (len : ℕ) (octets : List ℕ) → has_some (parts len octets) ≡ not (length octets == 0)
+pub some_parts : (len : ℕ) (octets : List ℕ)
+    → has_some (parts len octets) ≡ not (length octets == 0)
 some_parts len [] = refl
 some_parts len (c ∷ octets) = there c octets
 

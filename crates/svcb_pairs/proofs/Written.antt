@@ -1,4 +1,5 @@
--- Octets that were written are parameters. Offered to the crates above: `written_pairs` and `is_written`.
+-- Octets that were written are parameters. Offered to the crates above: `written_pairs` and
+-- `is_written`.
 use Rattle.std.proofs.Common.{◌≡◌, List, [], ℕ, Ok, ap, sym, ◌∙◌}
 use Rattle.std.specs.Result.{result_unwrap_or}
 use Rattle.svcb_spec.specs.Params.{Pairs, wire, IsMap}

@@ -25,11 +25,12 @@ pair_of entry = (entry.0, encode (value_of entry.1))
 abbrev pub pairs_of : Entries → Pairs
 pairs_of entries = map pair_of entries
 
--- The map holds exactly these values, each under its key: its pairs are the map of the values, and what a test tells of
--- all its values is what it tells of these.
+-- The map holds exactly these values, each under its key: its pairs are the map of the values, and
+-- what a test tells of all its values is what it tells of these.
 pub record Holds (values : List Value) (entries : Entries) : Type 0 where
   pub pairs : pairs_of entries ≡ map_of values
-  pub all : (test : Value → Bool) → list_all (λ entry. test (value_of entry.1)) entries ≡ list_all test values
+  pub all : (test : Value → Bool) → list_all (λ entry. test (value_of entry.1)) entries
+      ≡ list_all test values
   pub keyed : Each (λ entry. entry.0 ≡ key_of (value_of entry.1)) entries
   pub is_map : IsMap (pairs_of entries)
 
@@ -43,25 +44,32 @@ new_value before value = if has_key before (key_of value) then Err DuplicateKey 
 abbrev pub next_value : List Value → List ℕ → Result Value ScanError
 next_value before token = spells token >>= new_value before
 
--- The answer to a value that is read: the map then holds it with those before it, or it is refused by its fault. Only
--- want of memory may stand in place of either.
-abbrev pub Kept : List Value → Result Value ScanError → Entries → Result (Unit {0}) ScanError → Type 0
-Kept before read entries (Ok done) = (value : Value) × (read ≡ Ok value) × Holds (before ++ value ∷ []) entries
+-- The answer to a value that is read: the map then holds it with those before it, or it is refused
+-- by its fault. Only want of memory may stand in place of either.
+abbrev pub Kept : List Value → Result Value ScanError → Entries → Result (Unit {0}) ScanError
+    → Type 0
+Kept before read entries (Ok done) =
+    (value : Value) × (read ≡ Ok value) × Holds (before ++ value ∷ []) entries
 Kept before read entries (Err NoMemory) = Unit {0}
 Kept before read entries (Err fault) = read ≡ Err fault
 
 -- the answer to a value, whatever values the map held
 abbrev pub KeepsValue : Value → Entries → Entries → Result (Unit {0}) ScanError → Type 0
-KeepsValue value old new result = (before : List Value) → Holds before old → Kept before (new_value before value) new result
+KeepsValue value old new result = (before : List Value) → Holds before old
+    → Kept before (new_value before value) new result
 
 -- the answer to the octets of a token
 abbrev pub KeepsToken : List ℕ → Entries → Entries → Result (Unit {0}) ScanError → Type 0
-KeepsToken token old new result = (before : List Value) → Holds before old → Kept before (next_value before token) new result
+KeepsToken token old new result = (before : List Value) → Holds before old
+    → Kept before (next_value before token) new result
 
 -- the answer to the next token, behind which the scanner stands where it is kept
-pub record KeepsNext (old new : Scan) (entries entries' : Entries) (result : Result (Unit {0}) ScanError) : Type 0 where
+pub record KeepsNext (old new : Scan) (entries entries' : Entries)
+    (result : Result (Unit {0}) ScanError) : Type 0 where
   pub kept : (before : List Value) → Holds before entries
-      → Kept before (next_token (λ token. next_value before (octets_of token)) old.tokens old.taken) entries' result
+      → Kept before
+          (next_token (λ token. next_value before (octets_of token)) old.tokens old.taken) entries'
+          result
   pub place : new ≡ record old { taken = if is_ok result then old.taken + 1 else old.taken }
 
 -- ---- all values
@@ -70,7 +78,8 @@ pub record KeepsNext (old new : Scan) (entries entries' : Entries) (result : Res
 abbrev pub has_entry : Entries → ℕ → Bool
 has_entry entries key = is_some (lookup (is_at (nat_cmp key)) entries)
 
--- whether it has each key that its list of mandatory keys names, where it holds one; such a list has the key 0
+-- whether it has each key that its list of mandatory keys names, where it holds one; such a list
+-- has the key 0
 abbrev pub has_mandatory : Entries → Bool
 has_mandatory entries = elim (lookup (is_at (nat_cmp 0)) entries) [
   | None ↦ true

@@ -1,4 +1,5 @@
--- Octets are service parameters in one way. Types of the crates above that hold such octets cite it for their models.
+-- Octets are service parameters in one way. Types of the crates above that hold such octets cite it
+-- for their models.
 use Rattle.std.specs.Prelude.{ℕ, ◌+◌, List, [], ◌∷◌}
 use Rattle.std.specs.Coded.{Unit-prop}
 use Rattle.std.proofs.Props.{props}

@@ -5,7 +5,8 @@ use Rattle.name_spec.specs.Octets.{Fault}
 use Rattle.svcb_spec.specs.Params.{Pairs, pairs_at, wire, IsMap}
 use Rattle.wire_base.specs.Input.{Input}
 
--- the parameters from a parser's place to its end, with keys above the last one, or their first fault
+-- the parameters from a parser's place to its end, with keys above the last one, or their first
+-- fault
 abbrev pub pairs_left : Input → Option ℕ → Result Pairs Fault
 pairs_left input last = pairs_at input.message input.end input.pos last
 

@@ -15,7 +15,8 @@ reply_of builder key octets = reply_to builder.pairs builder.limit key octets
 
 -- the builder with octets under a key
 abbrev pub with_octets : BuilderState → ℕ → List ℕ → BuilderState
-with_octets builder key octets = record builder { pairs = pairs_after replies.Accepted builder.pairs key octets }
+with_octets builder key octets =
+    record builder { pairs = pairs_after replies.Accepted builder.pairs key octets }
 
 -- the builder with a value
 abbrev pub with_value : BuilderState → Value → BuilderState
@@ -32,9 +33,10 @@ IsPushAnswer (Err DuplicateKey) reply = reply ≡ replies.DuplicateKey
 IsPushAnswer (Err ShortBuf) reply = reply ≡ replies.ShortBuf
 IsPushAnswer (Err NoMemory) reply = Unit {0}
 
--- Octets are pushed under a key. The answer fits the reply. Where they are accepted, the key was new, the octets fit, and
--- the builder has them; else the builder stays.
-pub record Pushes {E : Type 0} (old new : BuilderState) (key : ℕ) (octets : List ℕ) (result : Result (Unit {0}) E) (FitsReply : Reply → Type 0) : Type 0 where
+-- Octets are pushed under a key. The answer fits the reply. Where they are accepted, the key was
+-- new, the octets fit, and the builder has them; else the builder stays.
+pub record Pushes {E : Type 0} (old new : BuilderState) (key : ℕ) (octets : List ℕ)
+    (result : Result (Unit {0}) E) (FitsReply : Reply → Type 0) : Type 0 where
   pub answer : FitsReply (reply_of old key octets)
   pub ok : OnOk result (new ≡ with_octets old key octets)
   pub fresh : OnOk result (IsNone (value_at old.pairs key))
@@ -42,5 +44,7 @@ pub record Pushes {E : Type 0} (old new : BuilderState) (key : ℕ) (octets : Li
   pub err : OnErr result (new ≡ old)
 
 -- a value of a type is pushed
-abbrev pub PushesValue : {E : Type 0} → BuilderState → BuilderState → Value → Result (Unit {0}) E → (Reply → Type 0) → Type 0
-PushesValue old new value result FitsReply = Pushes old new (key_of value) (encode value) result FitsReply
+abbrev pub PushesValue : {E : Type 0} → BuilderState → BuilderState → Value → Result (Unit {0}) E
+    → (Reply → Type 0) → Type 0
+PushesValue old new value result FitsReply =
+    Pushes old new (key_of value) (encode value) result FitsReply

@@ -1,4 +1,5 @@
--- Pairs whose values stand in one run of octets: octets that were read, and behind them those of a buffer.
+-- Pairs whose values stand in one run of octets: octets that were read, and behind them those of a
+-- buffer.
 use Rattle.std.specs.Prelude.{ℕ, ◌+◌, ◌≤◌, ◌<◌, List, [], ◌∷◌, ◌++◌, length, Result, is_ok, slice_range, if◌then◌else◌}
 use Rattle.svcb_spec.specs.Params.{Pairs}
 use Rattle.svcb_pairs.specs.BuilderState.{IsBuilderState}
@@ -15,7 +16,8 @@ octets_of_span octets span = slice_range octets span.start (span.start + span.le
 -- the pairs that spans stand for
 abbrev pub limited_pairs : List ℕ → KeyedSpans → Pairs
 limited_pairs octets [] = []
-limited_pairs octets (entry ∷ entries) = (entry.0, octets_of_span octets entry.1) ∷ limited_pairs octets entries
+limited_pairs octets (entry ∷ entries) =
+    (entry.0, octets_of_span octets entry.1) ∷ limited_pairs octets entries
 
 -- a span ends within `len` octets, and where it begins in the first `read` of them it ends in these
 pub record IsInside (read len : ℕ) (span : Span) : Type 0 where
@@ -26,8 +28,8 @@ abbrev pub AreInside : ℕ → ℕ → KeyedSpans → Type 0
 AreInside read len [] = Unit {0}
 AreInside read len (entry ∷ entries) = IsInside read len entry.1 × AreInside read len entries
 
--- The spans are a map of so many octets in wire form, within a limit. The octets that were read and those of the buffer
--- are no more.
+-- The spans are a map of so many octets in wire form, within a limit. The octets that were read and
+-- those of the buffer are no more.
 pub record AreSpans (read own : List ℕ) (spans : KeyedSpans) (wire_len limit : ℕ) : Type 0 where
   pub builder : IsBuilderState (limited_pairs (read ++ own) spans) wire_len limit
   pub inside : AreInside (length read) (length read + length own) spans

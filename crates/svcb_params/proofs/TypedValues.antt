@@ -13,18 +13,23 @@ use Rattle.svcb_spec.specs.ReadingValues.{take_value, whole_value}
 use Rattle.wire_base.specs.declared.errors.ParseError.{ParseError}
 use Rattle.svcb_params.specs.Items.{with_item, items, first_value, whole_value_in, typed_at, TakesOnly, IsFirst}
 
-first_with_item : {Seen : Type 0} (read : Result Seen Fault) (others : List (Result Seen ParseError)) → first_value (with_item read others) ≡ result_ok read
+first_with_item : {Seen : Type 0} (read : Result Seen Fault)
+    (others : List (Result Seen ParseError)) → first_value (with_item read others) ≡ result_ok read
 first_with_item (Ok value) others = refl
 first_with_item (Err fault) others = refl
 
-found : (key : ℕ) (pair : Pair) (pairs : Pairs) → pair.0 ≡ key → value_at (pair ∷ pairs) key ≡ Some pair.1
+found : (key : ℕ) (pair : Pair) (pairs : Pairs) → pair.0 ≡ key
+    → value_at (pair ∷ pairs) key ≡ Some pair.1
 found key pair pairs same = rw (← nat_cmp_is key pair.0 Equal (sym same)) refl
 
-not_found : (key : ℕ) (pair : Pair) (pairs : Pairs) → pair.0 ≢ key → value_at (pair ∷ pairs) key ≡ value_at pairs key
+not_found : (key : ℕ) (pair : Pair) (pairs : Pairs) → pair.0 ≢ key
+    → value_at (pair ∷ pairs) key ≡ value_at pairs key
 not_found key pair pairs apart = grind (arith, nat_tests)
 
-module _ {Seen : Type 0} (takes : ℕ → Bool) (reads : ℕ → List ℕ → Result (Taken Seen) Fault) (key : ℕ) (only : TakesOnly takes key) where
-  first_under : (pairs : Pairs) → first_value (items takes reads pairs) ≡ whole_value_in (reads key) (value_at pairs key)
+module _ {Seen : Type 0} (takes : ℕ → Bool) (reads : ℕ → List ℕ → Result (Taken Seen) Fault)
+    (key : ℕ) (only : TakesOnly takes key) where
+  first_under : (pairs : Pairs)
+      → first_value (items takes reads pairs) ≡ whole_value_in (reads key) (value_at pairs key)
   first_under [] = refl
   first_under (pair ∷ pairs) =
       let others = items takes reads pairs in
@@ -44,13 +49,16 @@ module _ {Seen : Type 0} (takes : ℕ → Bool) (reads : ℕ → List ℕ → Re
       ]
 
 -- a value is seen exactly where it is there
-seen_there : {V Seen : Type 0} (seen : V → Seen) (value : Option V) (shown : Option Seen) → option_map seen value ≡ shown → is_some value ≡ is_some shown
+seen_there : {V Seen : Type 0} (seen : V → Seen) (value : Option V) (shown : Option Seen)
+    → option_map seen value ≡ shown → is_some value ≡ is_some shown
 seen_there seen None shown is = ap is_some is
 seen_there seen (Some value) shown is = ap is_some is
 
-module _ {V Seen : Type 0} (seen : V → Seen) (takes : ℕ → Bool) (reads : ℕ → List ℕ → Result (Taken Seen) Fault) (pairs : Pairs) (value : Option V)
+module _ {V Seen : Type 0} (seen : V → Seen) (takes : ℕ → Bool)
+    (reads : ℕ → List ℕ → Result (Taken Seen) Fault) (pairs : Pairs) (value : Option V)
     (first : option_map seen value ≡ first_value (items takes reads pairs)) where
-  under : (key : ℕ) → TakesOnly takes key → option_map seen value ≡ whole_value_in (reads key) (value_at pairs key)
+  under : (key : ℕ) → TakesOnly takes key
+      → option_map seen value ≡ whole_value_in (reads key) (value_at pairs key)
   under key only = first ∙ first_under takes reads key only pairs
 
   -- the first value of a type, and of one that takes one key the value under that key
@@ -61,11 +69,17 @@ module _ {V Seen : Type 0} (seen : V → Seen) (takes : ℕ → Bool) (reads : �
     is_there = λ key only. seen_there seen value _ (under key only);
   }
 
-same_reading : (reads others : List ℕ → Result (Taken Value) Fault) → ((octets : List ℕ) → reads octets ≡ others octets) → (octets : Option (List ℕ)) → whole_value_in reads octets ≡ whole_value_in others octets
+same_reading : (reads others : List ℕ → Result (Taken Value) Fault)
+    → ((octets : List ℕ) → reads octets ≡ others octets) → (octets : Option (List ℕ))
+    → whole_value_in reads octets ≡ whole_value_in others octets
 same_reading reads others same None = refl
-same_reading reads others same (Some octets) = ap (λ read. result_ok (whole_value octets read)) (same octets)
+same_reading reads others same (Some octets) =
+    ap (λ read. result_ok (whole_value octets read)) (same octets)
 
 -- a type that reads octets as the key's type does
-pub first_typed : (key : ℕ) (reads : ℕ → List ℕ → Result (Taken Value) Fault) → ((octets : List ℕ) → reads key octets ≡ take_value key octets)
+pub first_typed : (key : ℕ) (reads : ℕ → List ℕ → Result (Taken Value) Fault)
+    → ((octets : List ℕ) → reads key octets ≡ take_value key octets)
     → (pairs : Pairs) → first_value (items (λ k. k == key) reads pairs) ≡ typed_at key pairs
-first_typed key reads is pairs = first_under (λ k. k == key) reads key (λ k. refl) pairs ∙ same_reading (reads key) (take_value key) is (value_at pairs key)
+first_typed key reads is pairs =
+    first_under (λ k. k == key) reads key (λ k. refl) pairs
+    ∙ same_reading (reads key) (take_value key) is (value_at pairs key)

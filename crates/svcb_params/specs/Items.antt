@@ -10,16 +10,19 @@ use Rattle.wire_base.specs.declared.errors.ParseError.{ParseError}
 use Rattle.svcb_text.specs.WholeValues.{error_of}
 
 -- a value in front of the items that follow it; nothing follows a fault
-abbrev pub with_item : {Seen : Type 0} → Result Seen Fault → List (Result Seen ParseError) → List (Result Seen ParseError)
+abbrev pub with_item : {Seen : Type 0} → Result Seen Fault → List (Result Seen ParseError)
+    → List (Result Seen ParseError)
 with_item (Ok value) others = Ok value ∷ others
 with_item (Err fault) others = Err (error_of fault) ∷ []
 
--- The items of a type that takes some keys: for each pair of such a key, in order, the value that its octets wholly are,
--- or their fault, behind which the list ends.
-abbrev pub items : {Seen : Type 0} → (ℕ → Bool) → (ℕ → List ℕ → Result (Taken Seen) Fault) → Pairs → List (Result Seen ParseError)
+-- The items of a type that takes some keys: for each pair of such a key, in order, the value that
+-- its octets wholly are, or their fault, behind which the list ends.
+abbrev pub items : {Seen : Type 0} → (ℕ → Bool) → (ℕ → List ℕ → Result (Taken Seen) Fault) → Pairs
+    → List (Result Seen ParseError)
 items takes reads [] = []
 items takes reads (pair ∷ pairs) =
-    if takes pair.0 then with_item (whole_value pair.1 (reads pair.0 pair.1)) (items takes reads pairs)
+    if takes pair.0
+        then with_item (whole_value pair.1 (reads pair.0 pair.1)) (items takes reads pairs)
     else items takes reads pairs
 
 -- the items of the type of all values, which takes each key
@@ -33,7 +36,8 @@ first_value (Ok value ∷ others) = Some value
 first_value (Err error ∷ others) = None
 
 -- the value that octets wholly are, where there are octets
-abbrev pub whole_value_in : {Seen : Type 0} → (List ℕ → Result (Taken Seen) Fault) → Option (List ℕ) → Option Seen
+abbrev pub whole_value_in : {Seen : Type 0} → (List ℕ → Result (Taken Seen) Fault)
+    → Option (List ℕ) → Option Seen
 whole_value_in reads None = None
 whole_value_in reads (Some octets) = result_ok (whole_value octets (reads octets))
 
@@ -53,17 +57,23 @@ IsTypedAt key pairs result seen = option_map seen result ≡ typed_at key pairs
 abbrev pub TakesOnly : (ℕ → Bool) → ℕ → Type 0
 TakesOnly takes key = (other : ℕ) → takes other ≡ (other == key)
 
--- A value is the first of its type. Where the type takes one key alone, it is the value that stands under that key.
-pub record IsFirst {V Seen : Type 0} (seen : V → Seen) (takes : ℕ → Bool) (reads : ℕ → List ℕ → Result (Taken Seen) Fault) (pairs : Pairs) (result : Option V) : Type 0 where
+-- A value is the first of its type. Where the type takes one key alone, it is the value that stands
+-- under that key.
+pub record IsFirst {V Seen : Type 0} (seen : V → Seen) (takes : ℕ → Bool)
+    (reads : ℕ → List ℕ → Result (Taken Seen) Fault) (pairs : Pairs)
+    (result : Option V) : Type 0 where
   pub first : option_map seen result ≡ first_value (items takes reads pairs)
-  pub under_key : (key : ℕ) → TakesOnly takes key → option_map seen result ≡ whole_value_in (reads key) (value_at pairs key)
-  pub is_there : (key : ℕ) → TakesOnly takes key → is_some result ≡ is_some (whole_value_in (reads key) (value_at pairs key))
+  pub under_key : (key : ℕ) → TakesOnly takes key
+      → option_map seen result ≡ whole_value_in (reads key) (value_at pairs key)
+  pub is_there : (key : ℕ) → TakesOnly takes key
+      → is_some result ≡ is_some (whole_value_in (reads key) (value_at pairs key))
 
 -- all pairs in order, whatever their types
 abbrev pub raw_values : Pairs → List values.Value
 raw_values = map (λ pair. values.Unknown pair.0 pair.1)
 
 -- an item, as contracts see it
-abbrev pub value_item : {V Seen : Type 0} → (V → Seen) → Result V ParseError → Result Seen ParseError
+abbrev pub value_item : {V Seen : Type 0} → (V → Seen) → Result V ParseError
+    → Result Seen ParseError
 value_item seen (Ok value) = Ok (seen value)
 value_item seen (Err error) = Err error

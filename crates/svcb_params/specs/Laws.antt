@@ -23,8 +23,8 @@ EqualByOctets = (a b : Pairs) → IsMap a → IsMap b → (a ≡ b) ↔ (wire a 
 abbrev pub PairsAreFew : Type 0
 PairsAreFew = (pairs : Pairs) → IsMap pairs → 4 * length pairs ≤ length (wire pairs)
 
--- the first value of a type that takes one key, and reads octets under it as the key's type does, is the value that
--- stands under the key
+-- the first value of a type that takes one key, and reads octets under it as the key's type does,
+-- is the value that stands under the key
 abbrev pub FirstUnderKey : Type 0
 FirstUnderKey = (key : ℕ) (reads : ℕ → List ℕ → Result (Taken Value) Fault)
     → ((octets : List ℕ) → reads key octets ≡ take_value key octets)
@@ -39,4 +39,5 @@ PushedRead = (builder : BuilderState) (value : Value) → IsValue value → is_o
 abbrev pub AllReadThrough : Type 0
 AllReadThrough = (front back : Pairs) (value : Value) → IsValue value → is_own_type value ≡ true
     → Each (λ pair. IsOk (whole_value pair.1 (take_value pair.0 pair.1))) front
-    → all_items (front ++ (key_of value, encode value) ∷ back) ≡ all_items front ++ Ok value ∷ all_items back
+    → all_items (front ++ (key_of value, encode value) ∷ back)
+    ≡ all_items front ++ Ok value ∷ all_items back

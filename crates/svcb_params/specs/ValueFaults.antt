@@ -9,8 +9,8 @@ use Rattle.svcb_params.specs.declared.errors.PushValueError.TheVariants as value
 use Rattle.svcb_params.specs.declared.errors.PushAlpnError.{PushAlpnError}
 use Rattle.svcb_params.specs.declared.errors.PushAlpnError.TheVariants as alpn_errors
 
--- Long: the value would have more than 65,535 octets. NoItems: it has no items, and its type wants at least one.
--- InvalidName: the name of a protocol has no octets or more than 255.
+-- Long: the value would have more than 65,535 octets. NoItems: it has no items, and its type wants
+-- at least one. InvalidName: the name of a protocol has no octets or more than 255.
 pub data ValueFault : Type 0 where
   NoItems : ValueFault
   Long : ValueFault
@@ -24,7 +24,8 @@ len_fault len = if nat_lt 65535 len then Some Long else None
 abbrev pub groups_len_fault : ℕ → Option ValueFault
 groups_len_fault len = if len == 0 then Some NoItems else len_fault len
 
--- the first fault of protocols behind a value of so many octets; each stands behind an octet of length
+-- the first fault of protocols behind a value of so many octets; each stands behind an octet of
+-- length
 abbrev pub alpn_fault_behind : ℕ → List (List ℕ) → Option ValueFault
 alpn_fault_behind len [] = None
 alpn_fault_behind len (protocol ∷ protocols) =
@@ -39,8 +40,10 @@ alpn_fault = alpn_fault_behind 0
 -- the answer is the fault, or else the reply; want of memory may come where there is no fault
 abbrev pub IsPushValueAnswer : Result (Unit {0}) PushValueError → Option ValueFault → Reply → Type 0
 IsPushValueAnswer (Ok done) fault reply = (fault ≡ None) × (reply ≡ replies.Accepted)
-IsPushValueAnswer (Err value_errors.DuplicateKey) fault reply = (fault ≡ None) × (reply ≡ replies.DuplicateKey)
-IsPushValueAnswer (Err value_errors.ShortBuf) fault reply = (fault ≡ None) × (reply ≡ replies.ShortBuf)
+IsPushValueAnswer (Err value_errors.DuplicateKey) fault reply =
+    (fault ≡ None) × (reply ≡ replies.DuplicateKey)
+IsPushValueAnswer (Err value_errors.ShortBuf) fault reply =
+    (fault ≡ None) × (reply ≡ replies.ShortBuf)
 IsPushValueAnswer (Err value_errors.LongSvcParam) fault reply = fault ≡ Some Long
 IsPushValueAnswer (Err value_errors.EmptyValue) fault reply = fault ≡ Some NoItems
 IsPushValueAnswer (Err value_errors.NoMemory) fault reply = fault ≡ None
@@ -48,8 +51,10 @@ IsPushValueAnswer (Err value_errors.NoMemory) fault reply = fault ≡ None
 -- the same for protocols; want of memory may come before a fault
 abbrev pub IsPushAlpnAnswer : Result (Unit {0}) PushAlpnError → Option ValueFault → Reply → Type 0
 IsPushAlpnAnswer (Ok done) fault reply = (fault ≡ None) × (reply ≡ replies.Accepted)
-IsPushAlpnAnswer (Err alpn_errors.DuplicateKey) fault reply = (fault ≡ None) × (reply ≡ replies.DuplicateKey)
-IsPushAlpnAnswer (Err alpn_errors.ShortBuf) fault reply = (fault ≡ None) × (reply ≡ replies.ShortBuf)
+IsPushAlpnAnswer (Err alpn_errors.DuplicateKey) fault reply =
+    (fault ≡ None) × (reply ≡ replies.DuplicateKey)
+IsPushAlpnAnswer (Err alpn_errors.ShortBuf) fault reply =
+    (fault ≡ None) × (reply ≡ replies.ShortBuf)
 IsPushAlpnAnswer (Err alpn_errors.LongSvcParam) fault reply = fault ≡ Some Long
 IsPushAlpnAnswer (Err alpn_errors.InvalidProtocol) fault reply = fault ≡ Some InvalidName
 IsPushAlpnAnswer (Err alpn_errors.NoMemory) fault reply = Unit {0}

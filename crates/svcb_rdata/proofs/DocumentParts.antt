@@ -14,9 +14,13 @@ parts found =
 
 -- the five items, written in turn
 module _ (found : Record) (old begun numbered noted named behind : Sheet) where
-  pub parts_laid_out : (number : ℕ) (labels : List (List ℕ)) → number ≡ found.priority → labels ≡ found.labels → begun ≡ laid_out old (BlockBegin ∷ []) → numbered ≡ laid_out begun (Token (decimal number) ∷ [])
-      → noted ≡ laid_out numbered (Comment (codes "priority") ∷ []) → named ≡ laid_out noted (Token (printed_name_with_dot labels) ∷ [])
-      → behind ≡ laid_out named (Comment (codes "target") ∷ []) → behind ≡ laid_out old (parts found)
+  pub parts_laid_out : (number : ℕ) (labels : List (List ℕ)) → number ≡ found.priority
+      → labels ≡ found.labels → begun ≡ laid_out old (BlockBegin ∷ [])
+      → numbered ≡ laid_out begun (Token (decimal number) ∷ [])
+      → noted ≡ laid_out numbered (Comment (codes "priority") ∷ [])
+          → named ≡ laid_out noted (Token (printed_name_with_dot labels) ∷ [])
+      → behind ≡ laid_out named (Comment (codes "target") ∷ [])
+      → behind ≡ laid_out old (parts found)
   parts_laid_out number labels is are one two three four five =
       five ∙ ap (λ sheet. laid_out sheet (Comment (codes "target") ∷ []))
       (four ∙ ap₂ (λ ls sheet. laid_out sheet (Token (printed_name_with_dot ls) ∷ [])) are

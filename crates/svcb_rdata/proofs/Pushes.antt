@@ -21,9 +21,12 @@ module _ {X : Type 0} (value_of : X → Value) (pushes : List X) (i : ℕ) where
   left_none : length pushes ≤ i → left_from value_of i pushes ≡ []
   left_none none = ap (map value_of) (drop_of_length-le pushes none)
 
-  left_next : (push : X) → i < length pushes → push ≡ get_or pushes i push → left_from value_of i pushes ≡ value_of push ∷ left_from value_of (i + 1) pushes
+  left_next : (push : X) → i < length pushes → push ≡ get_or pushes i push
+      → left_from value_of i pushes ≡ value_of push ∷ left_from value_of (i + 1) pushes
   left_next push here item =
-      let next : drop i pushes ≡ push ∷ drop (i + 1) pushes = rw add-one (drop-cons pushes i push here ∙ ap (λ first. first ∷ drop (suc i) pushes) (sym item)) in
+      let next : drop i pushes ≡ push ∷ drop (i + 1) pushes =
+          rw add-one (drop-cons pushes i push here
+          ∙ ap (λ first. first ∷ drop (suc i) pushes) (sym item)) in
       ap (map value_of) next
 
   -- no value is left
@@ -31,25 +34,37 @@ module _ {X : Type 0} (value_of : X → Value) (pushes : List X) (i : ℕ) where
   are_none none = subst AreValues (sym (left_none none)) tt
 
   -- the next one is a value, and so are those behind it
-  pub are_next : (push : X) → i < length pushes → push ≡ get_or pushes i push → IsValue (value_of push) → AreValues (left_from value_of (i + 1) pushes) → AreValues (left_from value_of i pushes)
+  pub are_next : (push : X) → i < length pushes → push ≡ get_or pushes i push
+      → IsValue (value_of push) → AreValues (left_from value_of (i + 1) pushes)
+      → AreValues (left_from value_of i pushes)
   are_next push here item is rest = subst AreValues (sym (left_next push here item)) (is, rest)
 
   module _ (builder : BuilderState) (front : List Reply) where
     -- no push is left
-    pub accept_none : length pushes ≤ i → with_replies front (accept builder.pairs builder.limit (left_from value_of i pushes)) ≡ record { pairs = builder.pairs; replies = front }
+    pub accept_none : length pushes ≤ i
+        → with_replies front (accept builder.pairs builder.limit (left_from value_of i pushes))
+        ≡ record { pairs = builder.pairs; replies = front }
     unfolding accept
     accept_none none =
         ap (λ left. with_replies front (accept builder.pairs builder.limit left)) (left_none none)
-        ∙ ap (λ replies. let pushed : Pushed = record { pairs = builder.pairs; replies = replies } in pushed) (append-nil front)
+        ∙ ap (λ replies. let pushed : Pushed = record { pairs = builder.pairs; replies = replies }
+        in pushed) (append-nil front)
 
     -- the next push has the next reply
-    pub accept_next : (push : X) (builder' : BuilderState) (reply : Reply) (front' : List Reply) → i < length pushes → push ≡ get_or pushes i push
-        → reply ≡ reply_of_value builder (value_of push) → builder' ≡ behind_value builder (value_of push) reply → front' ≡ front ++ reply ∷ []
-        → with_replies front (accept builder.pairs builder.limit (left_from value_of i pushes)) ≡ with_replies front' (accept builder'.pairs builder'.limit (left_from value_of (i + 1) pushes))
+    pub accept_next : (push : X) (builder' : BuilderState) (reply : Reply) (front' : List Reply)
+        → i < length pushes → push ≡ get_or pushes i push
+        → reply ≡ reply_of_value builder (value_of push)
+        → builder' ≡ behind_value builder (value_of push) reply → front' ≡ front ++ reply ∷ []
+        → with_replies front (accept builder.pairs builder.limit (left_from value_of i pushes))
+        ≡ with_replies front'
+        (accept builder'.pairs builder'.limit (left_from value_of (i + 1) pushes))
     unfolding accept
     accept_next push builder' reply front' here item is moved more =
         let first = reply_of_value builder (value_of push) in
-        let rest = accept (behind_value builder (value_of push) first).pairs builder.limit (left_from value_of (i + 1) pushes) in
-        ap (λ left. with_replies front (accept builder.pairs builder.limit left)) (left_next push here item)
+        let rest = accept (behind_value builder (value_of push) first).pairs builder.limit
+            (left_from value_of (i + 1) pushes) in
+        ap (λ left. with_replies front (accept builder.pairs builder.limit left))
+            (left_next push here item)
         ∙ rw (more, moved, is)
-        (ap (λ replies. let pushed : Pushed = record { pairs = rest.pairs; replies = replies } in pushed) (sym (append_assoc front (first ∷ []) rest.replies)))
+        (ap (λ replies. let pushed : Pushed = record { pairs = rest.pairs; replies = replies }
+            in pushed) (sym (append_assoc front (first ∷ []) rest.replies)))

@@ -17,22 +17,28 @@ use Rattle.svcb_laws.proofs.DataTexts.{text_again}
 use Rattle.svcb_rdata.specs.Texts.{ReadsBack}
 
 -- the tokens left are scanned as the data
-scanned_again : (tokens : List (List Symbol)) (place : ℕ) → place ≤ length tokens → (found : Record) → IsRecordOfOctets found
-    → HasTokens (svcb_printed found) (drop place tokens) → (svcb_data tokens place).outcome ≡ Ok found
+scanned_again : (tokens : List (List Symbol)) (place : ℕ) → place ≤ length tokens
+    → (found : Record) → IsRecordOfOctets found
+    → HasTokens (svcb_printed found) (drop place tokens)
+        → (svcb_data tokens place).outcome ≡ Ok found
 scanned_again tokens place within found is has =
     let front = take place tokens in
     let count : length front ≡ place = length-take-le place tokens within in
-    sym (ap (λ (ts : List (List Symbol)). (svcb_data ts place).outcome) (take-append-drop place tokens))
+    sym (ap (λ (ts : List (List Symbol)). (svcb_data ts place).outcome)
+        (take-append-drop place tokens))
     ∙ sym (ap (λ n. (svcb_data (front ++ drop place tokens) n).outcome) count)
     ∙ ap (λ scanned. scanned.outcome) ((text_again found is).scanned (drop place tokens) has front)
 
 pub reads_back : (old : Scan) (result : Result Record ScanError) → old.taken ≤ length old.tokens
-    → Answers (λ found. found) result (svcb_data old.tokens old.taken).outcome → ReadsBack old result
+    → Answers (λ found. found) result (svcb_data old.tokens old.taken).outcome
+        → ReadsBack old result
 reads_back old result within answer found is has =
-    subst (Answers (λ seen. seen) result) (scanned_again old.tokens old.taken within found is has) answer
+    subst (Answers (λ seen. seen) result) (scanned_again old.tokens old.taken within found is has)
+        answer
 
 -- data is made of octets, where those of its target and its parameters are
-pub data_of_octets : (found : Record) (target parameters : List ℕ) → IsRecord found → target ≡ name_wire found.labels → parameters ≡ wire found.pairs
+pub data_of_octets : (found : Record) (target parameters : List ℕ) → IsRecord found
+    → target ≡ name_wire found.labels → parameters ≡ wire found.pairs
     → AreOctets target → AreOctets parameters → IsRecordOfOctets found
 data_of_octets found target parameters is target_is parameters_are small few =
     is_data found is (subst AreOctets target_is small) (subst AreOctets parameters_are few)

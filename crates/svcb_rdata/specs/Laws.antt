@@ -13,7 +13,8 @@ abbrev pub AreRead : Pairs → List Value → List Reply → Type 0
 AreRead pairs [] replies = Unit {0}
 AreRead pairs (value ∷ values) [] = Unit {0}
 AreRead pairs (value ∷ values) (reply ∷ replies) =
-    (reply ≡ Accepted → is_own_type value ≡ true → typed_at (key_of value) pairs ≡ Some value) × AreRead pairs values replies
+    (reply ≡ Accepted → is_own_type value ≡ true → typed_at (key_of value) pairs ≡ Some value)
+        × AreRead pairs values replies
 
 -- typed values that are accepted are read, whatever octets the parameters held before
 abbrev pub AcceptedRead : Type 0
@@ -29,5 +30,6 @@ pub record AreRebuilt (octets : List ℕ) (pairs : Pairs) : Type 0 where
   pub limit : ℕ
   pub found : Record
   pub replies : List Reply
-  pub rebuilding : IsRebuilding message start len values limit found (record { octets = octets; replies = replies })
+  pub rebuilding : IsRebuilding message start len values limit found
+      (record { octets = octets; replies = replies })
   pub pairs_are : pairs ≡ (with_accepted found values limit).pairs

@@ -11,4 +11,5 @@ reply_of_value builder value = reply_of builder (key_of value) (encode value)
 
 -- the builder behind that push
 abbrev pub behind_value : BuilderState → Value → Reply → BuilderState
-behind_value builder value reply = record builder { pairs = pairs_after reply builder.pairs (key_of value) (encode value) }
+behind_value builder value reply =
+    record builder { pairs = pairs_after reply builder.pairs (key_of value) (encode value) }

@@ -16,7 +16,8 @@ pub record RecordView : Type 0 where
 
 -- the record data that is seen
 abbrev pub record_of : RecordView → Record
-record_of view = record { priority = view.priority; labels = view.target.labels; pairs = view.pairs }
+record_of view =
+    record { priority = view.priority; labels = view.target.labels; pairs = view.pairs }
 
 -- the record data in all octets before the end of the data
 abbrev pub next_record : Input → Result Record Fault

@@ -42,9 +42,11 @@ AnswersRebuild (Err error) answer = IsRefusal error answer
 
 -- how many octets the record data has with the values that are accepted
 abbrev pub rebuilt_len : Record → List Value → ℕ → ℕ
-rebuilt_len found values limit = length (rdata found.priority found.labels (accept found.pairs limit values).pairs)
+rebuilt_len found values limit =
+    length (rdata found.priority found.labels (accept found.pairs limit values).pairs)
 
 -- what was rebuilt is a rebuilding of the record that was read: the premise of the laws
 abbrev pub IsRebuiltFrom : List ℕ → ℕ → ℕ → List Value → ℕ → Rebuilt → Type 0
 IsRebuiltFrom message start len values limit done =
-    (found : Record) → read message start len ≡ Ok found → IsRebuilding message start len values limit found (rebuilt_view done)
+    (found : Record) → read message start len ≡ Ok found
+        → IsRebuilding message start len values limit found (rebuilt_view done)

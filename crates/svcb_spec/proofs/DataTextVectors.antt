@@ -20,7 +20,8 @@ use Rattle.svcb_spec.specs.DataDocuments.{svcb_document}
 
 -- priority 1, the root, protocol h2 and port 53
 abbrev root_record : Record
-root_record = record { priority = 1; labels = []; pairs = (1, 2 ∷ codes "h2") ∷ (3, 0 ∷ 53 ∷ []) ∷ [] }
+root_record = record { priority = 1; labels = [];
+    pairs = (1, 2 ∷ codes "h2") ∷ (3, 0 ∷ 53 ∷ []) ∷ [] }
 
 -- priority 16, foo.example.org, and the protocols `f\oo,bar` and `h2`
 abbrev escaped_record : Record
@@ -36,11 +37,13 @@ root_printed : svcb_printed root_record ≡ codes "1 . alpn=h2 port=53"
 unfolding digits printed_as
 root_printed = refl
 
-escaped_printed : svcb_printed escaped_record ≡ codes "16 foo.example.org. alpn=f\\\\\\\\oo\\\\,bar,h2"
+escaped_printed : svcb_printed escaped_record
+    ≡ codes "16 foo.example.org. alpn=f\\\\\\\\oo\\\\,bar,h2"
 unfolding digits printed_as
 escaped_printed = refl
 
-space_at_the_end : svcb_printed (record { priority = 0; labels = codes "a" ∷ []; pairs = [] }) ≡ codes "0 a. "
+space_at_the_end : svcb_printed (record { priority = 0; labels = codes "a" ∷ []; pairs = [] })
+    ≡ codes "0 a. "
 unfolding digits printed_as
 space_at_the_end = refl
 
@@ -52,25 +55,34 @@ data_in text = svcb_data (tokens_in text) 0
 
 -- the length of a record, by its pairs in order: to ask for all keys would take long here
 fits : (found : Record) (end : ℕ) → IsMap found.pairs
-    → nat_lt 65535 (length (be2 found.priority ++ name_wire found.labels ++ pairs_wire found.pairs)) ≡ false
+    → nat_lt 65535
+        (length (be2 found.priority ++ name_wire found.labels ++ pairs_wire found.pairs)) ≡ false
     → within_record_limit found end ≡ done found end
 fits found end is_map short =
-    ap (λ octets. cond (nat_lt 65535 (length (be2 found.priority ++ name_wire found.labels ++ octets))) (refused LongRecord end) (done found end))
-    (wire-pairs found.pairs is_map) ∙ ap (λ long. cond long (refused LongRecord end) (done found end)) short
+    ap (λ octets. cond
+        (nat_lt 65535 (length (be2 found.priority ++ name_wire found.labels ++ octets)))
+        (refused LongRecord end) (done found end))
+    (wire-pairs found.pairs is_map)
+        ∙ ap (λ long. cond long (refused LongRecord end) (done found end)) short
 
 root_read : data_in (codes "1 . port=53 alpn=h2") ≡ within_record_limit root_record 4
 unfolding lexemes_at step protocols_within
 root_read = refl
 
 any_order : data_in (codes "1 . port=53 alpn=h2") ≡ done root_record 4
-any_order = root_read ∙ fits root_record 4 (omega arith, omega arith, omega arith, (omega arith, omega arith, omega arith, tt)) refl
+any_order = root_read
+    ∙ fits root_record 4
+    (omega arith, omega arith, omega arith, (omega arith, omega arith, omega arith, tt)) refl
 
-protocols_read : data_in (codes "16 foo.example.org. alpn=f\\\\\\092oo\\092,bar,h2") ≡ within_record_limit escaped_record 3
+protocols_read : data_in (codes "16 foo.example.org. alpn=f\\\\\\092oo\\092,bar,h2")
+    ≡ within_record_limit escaped_record 3
 unfolding lexemes_at step protocols_within
 protocols_read = refl
 
-escaped_commas : data_in (codes "16 foo.example.org. alpn=f\\\\\\092oo\\092,bar,h2") ≡ done escaped_record 3
-escaped_commas = protocols_read ∙ fits escaped_record 3 (omega arith, omega arith, omega arith, tt) refl
+escaped_commas : data_in (codes "16 foo.example.org. alpn=f\\\\\\092oo\\092,bar,h2")
+    ≡ done escaped_record 3
+escaped_commas =
+    protocols_read ∙ fits escaped_record 3 (omega arith, omega arith, omega arith, tt) refl
 
 nothing_there : data_in [] ≡ refused EndOfEntry 0
 unfolding lexemes_at step
@@ -104,6 +116,7 @@ unfolding digits printed_as
 by_tabs = refl
 
 in_lines : laid_out_text Multiline (svcb_document root_record)
-    ≡ codes "( 1 ; priority" ++ 10 ∷ 9 ∷ codes ". ; target" ++ 10 ∷ 9 ∷ codes "( alpn=h2 port=53 ) )"
+    ≡ codes "( 1 ; priority" ++ 10 ∷ 9 ∷ codes ". ; target"
+        ++ 10 ∷ 9 ∷ codes "( alpn=h2 port=53 ) )"
 unfolding digits printed_as
 in_lines = refl

@@ -73,7 +73,8 @@ value_unexpected = refl
 abbrev params_in : List ℕ → Scanned Pairs
 params_in text = params (tokens_in text) 0
 
-ascending_keys : params_in (codes "port=53 alpn=h2") ≡ done ((1, 2 ∷ codes "h2") ∷ (3, 0 ∷ 53 ∷ []) ∷ []) 2
+ascending_keys : params_in (codes "port=53 alpn=h2")
+    ≡ done ((1, 2 ∷ codes "h2") ∷ (3, 0 ∷ 53 ∷ []) ∷ []) 2
 unfolding lexemes_at step protocols_within
 ascending_keys = refl
 
@@ -87,7 +88,8 @@ missing_mandatory = refl
 
 -- ---- printing
 
-printed_protocol : value_printed (Alpn ((102 ∷ 92 ∷ 111 ∷ codes "o,bar") ∷ codes "h2" ∷ [])) ≡ codes "alpn=f\\\\\\\\oo\\\\,bar,h2"
+printed_protocol : value_printed (Alpn ((102 ∷ 92 ∷ 111 ∷ codes "o,bar") ∷ codes "h2" ∷ []))
+    ≡ codes "alpn=f\\\\\\\\oo\\\\,bar,h2"
 unfolding printed_as
 printed_protocol = refl
 

@@ -18,7 +18,8 @@ port : encode (Port 443) ≡ 0x01 ∷ 0xbb ∷ []
 port = refl
 
 -- ipv4hint=192.0.2.1,192.0.2.2
-ipv4_hint : encode (Ipv4Hint ((192 ∷ 0 ∷ 2 ∷ 1 ∷ []) ∷ (192 ∷ 0 ∷ 2 ∷ 2 ∷ []) ∷ [])) ≡ 0xc0 ∷ 0x00 ∷ 0x02 ∷ 0x01 ∷ 0xc0 ∷ 0x00 ∷ 0x02 ∷ 0x02 ∷ []
+ipv4_hint : encode (Ipv4Hint ((192 ∷ 0 ∷ 2 ∷ 1 ∷ []) ∷ (192 ∷ 0 ∷ 2 ∷ 2 ∷ []) ∷ []))
+    ≡ 0xc0 ∷ 0x00 ∷ 0x02 ∷ 0x01 ∷ 0xc0 ∷ 0x00 ∷ 0x02 ∷ 0x02 ∷ []
 ipv4_hint = refl
 
 -- tls-supported-groups=29,23
@@ -29,7 +30,8 @@ groups = refl
 odd_mandatory : take_value 0 (0x00 ∷ 0x01 ∷ 0x00 ∷ []) ≡ Err Form
 odd_mandatory = refl
 
-even_mandatory : whole_value (0x00 ∷ 0x01 ∷ []) (take_value 0 (0x00 ∷ 0x01 ∷ [])) ≡ Ok (Mandatory (1 ∷ []))
+even_mandatory : whole_value (0x00 ∷ 0x01 ∷ []) (take_value 0 (0x00 ∷ 0x01 ∷ []))
+    ≡ Ok (Mandatory (1 ∷ []))
 even_mandatory = refl
 
 -- a protocol may be empty, and none may be cut off
@@ -43,7 +45,8 @@ cut_protocol = refl
 short_port : take_value 3 (0x00 ∷ []) ≡ Err Short
 short_port = refl
 
-long_port : whole_value (0x00 ∷ 0x35 ∷ 0x00 ∷ []) (take_value 3 (0x00 ∷ 0x35 ∷ 0x00 ∷ [])) ≡ Err Form
+long_port : whole_value (0x00 ∷ 0x35 ∷ 0x00 ∷ []) (take_value 3 (0x00 ∷ 0x35 ∷ 0x00 ∷ []))
+    ≡ Err Form
 long_port = refl
 
 unknown_port : value_in 3 (0x00 ∷ 0x35 ∷ 0x00 ∷ []) ≡ Unknown 3 (0x00 ∷ 0x35 ∷ 0x00 ∷ [])

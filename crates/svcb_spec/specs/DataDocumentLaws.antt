@@ -1,4 +1,5 @@
--- The documents of record data and of parameters are documents. Types that are laid out so cite these for their law.
+-- The documents of record data and of parameters are documents. Types that are laid out so cite
+-- these for their law.
 use Rattle.std.specs.Prelude.{ℕ, List, [], ◌∷◌, ◌++◌, codes, refl}
 use Rattle.std.specs.Fmt.{decimal}
 use Rattle.name_spec.specs.Printed.{printed_name_with_dot}
@@ -21,10 +22,13 @@ target_line = (refl, (refl, (refl, (refl, (refl, (refl, tt))))))
 -- the parts before the parameters
 abbrev leading_items : Record → List Item
 leading_items found =
-    Token (decimal found.priority) ∷ Comment (codes "priority") ∷ Token (printed_name_with_dot found.labels) ∷ Comment (codes "target") ∷ []
+    Token (decimal found.priority) ∷ Comment (codes "priority")
+        ∷ Token (printed_name_with_dot found.labels) ∷ Comment (codes "target") ∷ []
 
 pub document-svcb : (found : Record) → IsDocument (svcb_document found)
 document-svcb found =
-    let first : IsDocument (leading_items found) = record { closes = λ _. refl; comments = (priority_line, (target_line, tt)) } in
+    let first : IsDocument (leading_items found) =
+        record { closes = λ _. refl; comments = (priority_line, (target_line, tt)) } in
     document-block (leading_items found ++ params_document found.pairs)
-    (document-append (leading_items found) (params_document found.pairs) first (document-params found.pairs))
+    (document-append (leading_items found) (params_document found.pairs) first
+        (document-params found.pairs))

@@ -15,7 +15,8 @@ pair_items pairs = map (λ text. Token text) (pair_texts pairs)
 abbrev pub params_document : Pairs → List Item
 params_document pairs = BlockBegin ∷ pair_items pairs ++ BlockEnd ∷ []
 
--- the data: a block of the priority, the target with its final dot, and the document of the parameters
+-- the data: a block of the priority, the target with its final dot, and the document of the
+-- parameters
 abbrev pub svcb_document : Record → List Item
 svcb_document found =
     BlockBegin ∷ Token (decimal found.priority) ∷ Comment (codes "priority")

@@ -6,7 +6,8 @@ use Rattle.text_spec.specs.declared.errors.ScanError.TheVariants.{BadListEscape,
 
 -- the next step of a reading, unless there is a fault
 infixl 10 ◌>>=◌
-abbrev pub ◌>>=◌ : {A B : Type 0} → Result A ScanError → (A → Result B ScanError) → Result B ScanError
+abbrev pub ◌>>=◌ : {A B : Type 0} → Result A ScanError → (A → Result B ScanError)
+    → Result B ScanError
 (Ok x) >>= f = f x
 (Err fault) >>= f = Err fault
 
@@ -20,7 +21,8 @@ onto_piece octet (piece ∷ pieces) = (octet ∷ piece) ∷ pieces
 -- the pieces between commas; there is always one
 abbrev pub comma_pieces : List ℕ → List (List ℕ)
 comma_pieces [] = [] ∷ []
-comma_pieces (c ∷ text) = if c == 44 then [] ∷ comma_pieces text else onto_piece c (comma_pieces text)
+comma_pieces (c ∷ text) =
+    if c == 44 then [] ∷ comma_pieces text else onto_piece c (comma_pieces text)
 
 -- the items of a list: no octets have none
 abbrev pub comma_items : List ℕ → List (List ℕ)
@@ -44,7 +46,8 @@ is_escaped_in_item c = (c == 44) || (c == 92)
 abbrev pub escaped_item : List ℕ → List ℕ
 escaped_item item = flat_map (λ c. if is_escaped_in_item c then 92 ∷ c ∷ [] else c ∷ []) item
 
--- what an item's text is: the item without its escapes, and what follows the comma behind it, where there is one
+-- what an item's text is: the item without its escapes, and what follows the comma behind it, where
+-- there is one
 pub record ItemRead : Type 0 where
   pub item : List ℕ
   pub rest : Option (List ℕ)
@@ -54,8 +57,8 @@ abbrev pub onto_item : ℕ → Result ItemRead ScanError → Result ItemRead Sca
 onto_item octet (Ok read) = Ok (record { item = octet ∷ read.item; rest = read.rest })
 onto_item octet (Err fault) = Err fault
 
--- The item text runs to the first comma that isn't the second octet of an escape, or to the end. A backslash that is
--- followed by neither a comma nor a backslash is no escape.
+-- The item text runs to the first comma that isn't the second octet of an escape, or to the end. A
+-- backslash that is followed by neither a comma nor a backslash is no escape.
 abbrev pub read_item : List ℕ → Result ItemRead ScanError
 read_item [] = Ok (record { item = []; rest = None })
 read_item (c ∷ []) =
@@ -64,7 +67,9 @@ read_item (c ∷ []) =
     else Ok (record { item = c ∷ []; rest = None })
 read_item (c ∷ next ∷ text) =
     if c == 44 then Ok (record { item = []; rest = Some (next ∷ text) })
-    else if c == 92 then (if is_escaped_in_item next then onto_item next (read_item text) else Err BadListEscape)
+    else if c == 92
+        then (if is_escaped_in_item next then onto_item next (read_item text)
+        else Err BadListEscape)
     else onto_item c (read_item (next ∷ text))
 
 -- an item has at least one octet
@@ -74,6 +79,8 @@ some_octets read = if length read.item == 0 then Err EmptyItem else Ok read
 -- ---- items in turn
 
 -- Each item is read by a rule that knows the items before it. The first fault decides.
-abbrev pub read_items : {A : Type 0} → (List A → List ℕ → Result A ScanError) → List A → List (List ℕ) → Result (List A) ScanError
+abbrev pub read_items : {A : Type 0} → (List A → List ℕ → Result A ScanError) → List A
+    → List (List ℕ) → Result (List A) ScanError
 read_items rule before [] = Ok before
-read_items rule before (item ∷ items) = rule before item >>= λ x. read_items rule (before ++ x ∷ []) items
+read_items rule before (item ∷ items) =
+    rule before item >>= λ x. read_items rule (before ++ x ∷ []) items

@@ -56,12 +56,14 @@ mandatory_keys value = []
 
 -- each key that a list of mandatory keys names is the key of some value
 abbrev pub are_mandatory_there : List Value → Bool
-are_mandatory_there values = list_all (λ value. list_all (has_key values) (mandatory_keys value)) values
+are_mandatory_there values =
+    list_all (λ value. list_all (has_key values) (mandatory_keys value)) values
 
 -- a pair among others, by ascending keys
 abbrev pub insert_pair : ℕ × List ℕ → Pairs → Pairs
 insert_pair pair [] = pair ∷ []
-insert_pair pair (other ∷ pairs) = if nat_le pair.0 other.0 then pair ∷ other ∷ pairs else other ∷ insert_pair pair pairs
+insert_pair pair (other ∷ pairs) = if nat_le pair.0 other.0 then pair ∷ other ∷ pairs
+    else other ∷ insert_pair pair pairs
 
 -- the map of values of different keys
 abbrev pub map_of : List Value → Pairs

@@ -1,4 +1,5 @@
--- Service parameters (RFC 9460, section 2.2): a map from keys to octets, as the list of its pairs by ascending keys.
+-- Service parameters (RFC 9460, section 2.2): a map from keys to octets, as the list of its pairs
+-- by ascending keys.
 use Rattle.std.specs.Prelude.{ℕ, zero, suc, ◌+◌, ◌-◌, ◌<◌, ◌≤◌, Bool, true, not, List, [], ◌∷◌, ◌++◌, length, Option, None, Some, Result, Ok, Err, slice_range, nat_lt, ◌==◌, if◌then◌else◌}
 use Rattle.std.specs.Ordering.{nat_cmp}
 use Rattle.std.specs.BTreeMap.{is_at}
@@ -26,7 +27,8 @@ abbrev pub is_above : Option ℕ → ℕ → Bool
 is_above None key = true
 is_above (Some last) key = nat_lt last key
 
--- In the two steps below `again pos last` reads on at a place, behind the key `last`. The data ends at `end`.
+-- In the two steps below `again pos last` reads on at a place, behind the key `last`. The data ends
+-- at `end`.
 
 -- a length, and that many octets of value
 abbrev pub pair_step : (ℕ → Option ℕ → Result Pairs Fault) → List ℕ → ℕ → ℕ → Result Pairs Fault
@@ -39,7 +41,8 @@ pair_step again message end pos =
     else with_pair (key, slice_range message (pos + 4) (pos + 4 + n)) rest
 
 -- a pair at the place, unless the data ends there; its key is tested before its length is read
-unfoldable pub pairs_step : (ℕ → Option ℕ → Result Pairs Fault) → List ℕ → ℕ → ℕ → Option ℕ → Result Pairs Fault
+unfoldable pub pairs_step : (ℕ → Option ℕ → Result Pairs Fault) → List ℕ → ℕ → ℕ → Option ℕ
+    → Result Pairs Fault
 pairs_step again message end pos last =
     let pair = pair_step again message end pos in
     if pos == end then Ok []
@@ -52,8 +55,9 @@ unfoldable pub pairs_within : ℕ → List ℕ → ℕ → ℕ → Option ℕ �
 pairs_within zero message end = pairs_step (λ _ _. Err Short) message end
 pairs_within (suc steps) message end = pairs_step (pairs_within steps message end) message end
 
--- The pairs from a place to the data's end, with keys that ascend strictly from above `last`. Each pair lies behind
--- the one before, so these steps are enough: the law `pairs_by_step` says that `pairs_at` is `pairs_step` of itself.
+-- The pairs from a place to the data's end, with keys that ascend strictly from above `last`. Each
+-- pair lies behind the one before, so these steps are enough: the law `pairs_by_step` says that
+-- `pairs_at` is `pairs_step` of itself.
 unfoldable pub pairs_at : List ℕ → ℕ → ℕ → Option ℕ → Result Pairs Fault
 pairs_at message end pos last = pairs_within (end - pos) message end pos last
 
@@ -65,7 +69,8 @@ pair_wire key (Some value) = be2 key ++ be2 (length value) ++ value
 -- the pairs of so many keys in turn, the first of which is `key`
 unfoldable pub wire_from : ℕ → ℕ → Pairs → List ℕ
 wire_from zero key pairs = []
-wire_from (suc count) key pairs = pair_wire key (value_at pairs key) ++ wire_from count (key + 1) pairs
+wire_from (suc count) key pairs =
+    pair_wire key (value_at pairs key) ++ wire_from count (key + 1) pairs
 
 -- the octets of a map: its pairs of the keys 0 to 65,535 in turn
 unfoldable pub wire : Pairs → List ℕ
@@ -74,7 +79,8 @@ wire pairs = wire_from 65536 0 pairs
 -- keys ascend strictly and are at least `least`; keys and lengths are numbers of 16 bits
 abbrev pub Ascends : ℕ → Pairs → Type 0
 Ascends least [] = Unit {0}
-Ascends least (pair ∷ pairs) = (least ≤ pair.0) × (pair.0 < 65536) × (length pair.1 < 65536) × Ascends (pair.0 + 1) pairs
+Ascends least (pair ∷ pairs) = (least ≤ pair.0) × (pair.0 < 65536) × (length pair.1 < 65536)
+    × Ascends (pair.0 + 1) pairs
 
 -- pairs that are a map's
 abbrev pub IsMap : Pairs → Type 0

@@ -30,9 +30,11 @@ has_some (x ∷ xs) = true
 abbrev pub is_plain : ℕ → Bool
 is_plain c = is_visible c && not (is_special c)
 
--- Whether the text of a value gives its octets back, among these pairs. A value without a type has no text of a type.
+-- Whether the text of a value gives its octets back, among these pairs. A value without a type has
+-- no text of a type.
 abbrev pub has_own_text : Pairs → Value → Bool
-has_own_text pairs (Mandatory keys) = has_some keys && ascends_above 0 keys && list_all (holds_key pairs) keys
+has_own_text pairs (Mandatory keys) =
+    has_some keys && ascends_above 0 keys && list_all (holds_key pairs) keys
 has_own_text pairs (Alpn protocols) = has_some protocols && list_all has_some protocols
 has_own_text pairs NoDefaultAlpn = true
 has_own_text pairs (Port port) = true
@@ -44,7 +46,8 @@ has_own_text pairs Ohttp = true
 has_own_text pairs (TlsSupportedGroups groups) = are_distinct groups
 has_own_text pairs (Unknown key octets) = false
 
--- the text of a pair: that of the value that its octets wholly are, where this gives them back, else that of any octets
+-- the text of a pair: that of the value that its octets wholly are, where this gives them back,
+-- else that of any octets
 abbrev pub pair_printed : Pairs → Pair → List ℕ
 pair_printed pairs pair =
     let value = value_in pair.0 pair.1 in

@@ -1,4 +1,5 @@
--- How values are printed, each by itself (RFC 9460, section 7; RFC 9461, section 5; RFC 9540, section 4).
+-- How values are printed, each by itself (RFC 9460, section 7; RFC 9461, section 5; RFC 9540,
+-- section 4).
 use Rattle.std.specs.Prelude.{ℕ, nat_lt, ◌==◌, if◌then◌else◌, List, [], ◌∷◌, ◌++◌, length, map, codes}
 use Rattle.std.specs.List.{join_with_byte}
 use Rattle.std.specs.Fmt.{decimal}
@@ -39,7 +40,8 @@ opaque_text key octets = with_text (opaque_key_name key) (printed_octets octets)
 -- the text of a value
 abbrev pub value_printed : Value → List ℕ
 value_printed (Mandatory keys) = with_items (codes "mandatory") (map key_name keys)
-value_printed (Alpn protocols) = with_items (codes "alpn") (map (λ protocol. printed_octets (escaped_item protocol)) protocols)
+value_printed (Alpn protocols) =
+    with_items (codes "alpn") (map (λ protocol. printed_octets (escaped_item protocol)) protocols)
 value_printed NoDefaultAlpn = codes "no-default-alpn"
 value_printed (Port port) = codes "port=" ++ decimal port
 value_printed (Ipv4Hint addresses) = with_items (codes "ipv4hint") (map ipv4_text addresses)
@@ -47,5 +49,6 @@ value_printed (Ech octets) = with_text (codes "ech") (base64_text octets)
 value_printed (Ipv6Hint addresses) = with_items (codes "ipv6hint") (map ipv6_text addresses)
 value_printed (DohPath octets) = with_text (codes "dohpath") (utf8_or_printed octets)
 value_printed Ohttp = codes "ohttp"
-value_printed (TlsSupportedGroups groups) = with_items (codes "tls-supported-groups") (map decimal groups)
+value_printed (TlsSupportedGroups groups) =
+    with_items (codes "tls-supported-groups") (map decimal groups)
 value_printed (Unknown key octets) = opaque_text key octets

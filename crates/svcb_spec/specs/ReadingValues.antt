@@ -17,7 +17,8 @@ octets_number = number_behind 0
 -- the parts of `len` octets each behind the next `skip` octets
 abbrev pub parts_behind : ℕ → ℕ → List ℕ → List (List ℕ)
 parts_behind len skip [] = []
-parts_behind len zero (octet ∷ octets) = take len (octet ∷ octets) ∷ parts_behind len (len - 1) octets
+parts_behind len zero (octet ∷ octets) =
+    take len (octet ∷ octets) ∷ parts_behind len (len - 1) octets
 parts_behind len (suc skip) (octet ∷ octets) = parts_behind len skip octets
 
 abbrev pub parts : ℕ → List ℕ → List (List ℕ)
@@ -82,7 +83,8 @@ take_all None value octets = Ok (taking_all octets value)
 take_all (Some fault) value octets = Err fault
 
 -- what all octets are as a value of a type: `value` of them, unless they have a `fault`
-abbrev pub whole_value : {Seen : Type 0} → (List ℕ → Option Fault) → (List ℕ → Seen) → List ℕ → Result (Taken Seen) Fault
+abbrev pub whole_value : {Seen : Type 0} → (List ℕ → Option Fault) → (List ℕ → Seen) → List ℕ
+    → Result (Taken Seen) Fault
 whole_value fault value octets = take_all (fault octets) (value octets) octets
 
 -- a port takes two octets
@@ -103,12 +105,14 @@ take_value key octets =
     else if key == 6 then take_all (parts_fault 16 octets) (Ipv6Hint (parts 16 octets)) octets
     else if key == 7 then take_all (long_fault octets) (DohPath octets) octets
     else if key == 8 then Ok (record { value = Ohttp; len = 0 })
-    else if key == 9 then take_all (groups_fault octets) (TlsSupportedGroups (numbers octets)) octets
+    else if key == 9
+        then take_all (groups_fault octets) (TlsSupportedGroups (numbers octets)) octets
     else take_all (long_fault octets) (Unknown key octets) octets
 
 -- what octets wholly are: octets left behind a value are a fault
 abbrev pub whole_value : {Seen : Type 0} → List ℕ → Result (Taken Seen) Fault → Result Seen Fault
-whole_value octets (Ok taken) = if nat_lt taken.len (length octets) then Err Form else Ok taken.value
+whole_value octets (Ok taken) = if nat_lt taken.len (length octets) then Err Form
+    else Ok taken.value
 whole_value octets (Err fault) = Err fault
 
 -- the value that octets wholly are under a key, and else the octets as they stand

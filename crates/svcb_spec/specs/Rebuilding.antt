@@ -35,7 +35,8 @@ accept pairs limit (value ∷ values) =
     let rest = accept (pairs_after reply pairs (key_of value) (encode value)) limit values in
     record { pairs = rest.pairs; replies = reply ∷ rest.replies }
 
--- why nothing is rebuilt: the data has a fault, its parameters exceed the limit, or the result exceeds 65,535 octets
+-- why nothing is rebuilt: the data has a fault, its parameters exceed the limit, or the result
+-- exceeds 65,535 octets
 pub data Refusal : Type 0 where
   Unread : Fault → Refusal
   OverLimit : Refusal
@@ -72,10 +73,13 @@ with_accepted found values limit = record found { pairs = (accept found.pairs li
 abbrev pub AreHeld : Pairs → List Value → List Reply → Type 0
 AreHeld pairs [] replies = Unit {0}
 AreHeld pairs (value ∷ values) [] = Unit {0}
-AreHeld pairs (value ∷ values) (reply ∷ replies) = (reply ≡ Accepted → value_at pairs (key_of value) ≡ Some (encode value)) × AreHeld pairs values replies
+AreHeld pairs (value ∷ values) (reply ∷ replies) =
+    (reply ≡ Accepted → value_at pairs (key_of value) ≡ Some (encode value))
+    × AreHeld pairs values replies
 
 -- the data in the `len` octets from `start` on is `found`, and with the values pushed it is `done`
-pub record IsRebuilding (message : List ℕ) (start len : ℕ) (values : List Value) (limit : ℕ) (found : Record) (done : Rebuilt) : Type 0 where
+pub record IsRebuilding (message : List ℕ) (start len : ℕ) (values : List Value) (limit : ℕ)
+    (found : Record) (done : Rebuilt) : Type 0 where
   pub octets : Each (λ octet. octet < 256) message
   pub in_message : start + len ≤ length message
   pub are_values : AreValues values

@@ -14,14 +14,16 @@ pub record Record : Type 0 where
 abbrev pub rdata : ℕ → List (List ℕ) → Pairs → List ℕ
 rdata priority labels pairs = be2 priority ++ name_wire labels ++ wire pairs
 
--- what a record is: a priority of 16 bits, the labels of a name, a map, and at most 65,535 octets in all
+-- what a record is: a priority of 16 bits, the labels of a name, a map, and at most 65,535 octets
+-- in all
 pub record IsRecord (found : Record) : Type 0 where
   pub priority : found.priority < 65536
   pub labels : AreLabels 0 found.labels
   pub is_map : IsMap found.pairs
   pub fits : length (rdata found.priority found.labels found.pairs) < 65536
 
--- the record data in the `len` octets from `start` on: at most 65,535 octets, as it stands and uncompressed
+-- the record data in the `len` octets from `start` on: at most 65,535 octets, as it stands and
+-- uncompressed
 unfoldable pub read : List ℕ → ℕ → ℕ → Result Record Fault
 read message start len =
     let end = start + len in
@@ -31,4 +33,5 @@ read message start len =
       name ← name_at message end (start + 2) 0 0
       pairs ← pairs_at message end name.next None
       if nat_lt 65535 (2 + length (name_wire name.labels) + length (wire pairs)) then Err Form
-          else Ok (record { priority = number_at message start; labels = name.labels; pairs = pairs })
+          else Ok (record { priority = number_at message start; labels = name.labels;
+              pairs = pairs })

@@ -1,4 +1,5 @@
--- The text of a value, by the type that its key has (RFC 9460, section 7; RFC 9461, section 5; RFC 9540, section 4).
+-- The text of a value, by the type that its key has (RFC 9460, section 7; RFC 9461, section 5; RFC
+-- 9540, section 4).
 use Rattle.std.specs.Prelude.{ℕ, zero, suc, ◌^◌, ◌==◌, nat_lt, nat_le, if◌then◌else◌, List, [], ◌∷◌, length, Option, Some, None, Result, Ok, Err}
 use Rattle.std.specs.List.{list_any}
 use Rattle.std.specs.Option.{ok_or}
@@ -25,7 +26,8 @@ other_key key = if key == 0 then Err KeyZeroInMandatory else Ok key
 -- a key of the list of mandatory keys
 abbrev pub mandatory_item : List ℕ → List ℕ → Result ℕ ScanError
 mandatory_item before item =
-    plain_item item >>= λ text. ok_or (spelled_key parameter_keys text) UnknownKey >>= λ key. other_key key >>= new_item before
+    plain_item item >>= λ text. ok_or (spelled_key parameter_keys text) UnknownKey
+        >>= λ key. other_key key >>= new_item before
 
 -- a number of a group
 abbrev pub group_item : List ℕ → List ℕ → Result ℕ ScanError
@@ -33,7 +35,8 @@ group_item before item =
     plain_item item >>= λ text. ok_or (spelled_number (2 ^ 16) text) BadNumber >>= new_item before
 
 -- an address
-abbrev pub address_item : (List ℕ → Option (List ℕ)) → List (List ℕ) → List ℕ → Result (List ℕ) ScanError
+abbrev pub address_item : (List ℕ → Option (List ℕ)) → List (List ℕ) → List ℕ
+    → Result (List ℕ) ScanError
 address_item address before item = plain_item item >>= λ text. ok_or (address text) BadAddress
 
 -- a protocol has at most 255 octets
@@ -45,7 +48,8 @@ abbrev pub protocol_item : List ℕ → Result ItemRead ScanError
 protocol_item text = read_item text >>= some_octets >>= short_item
 
 -- a protocol in front of the protocols that follow it, where `again` reads what follows
-abbrev pub protocols_step : (List ℕ → Result (List (List ℕ)) ScanError) → ItemRead → Result (List (List ℕ)) ScanError
+abbrev pub protocols_step : (List ℕ → Result (List (List ℕ)) ScanError) → ItemRead
+    → Result (List (List ℕ)) ScanError
 protocols_step again read = elim read.rest [
   | None ↦ Ok (read.item ∷ [])
   | Some rest ↦ again rest >>= λ items. Ok (read.item ∷ items)
@@ -56,8 +60,8 @@ unfoldable pub protocols_within : ℕ → List ℕ → Result (List (List ℕ)) 
 protocols_within zero text = Ok []
 protocols_within (suc count) text = protocol_item text >>= protocols_step (protocols_within count)
 
--- The protocols of a list. Each takes at least one octet, so this count is enough: the law `protocols_by_step` says that
--- the definition is a step of itself.
+-- The protocols of a list. Each takes at least one octet, so this count is enough: the law
+-- `protocols_by_step` says that the definition is a step of itself.
 abbrev pub protocols_of : List ℕ → Result (List (List ℕ)) ScanError
 protocols_of text = protocols_within (suc (length text)) text
 
@@ -66,7 +70,8 @@ protocols_of text = protocols_within (suc (length text)) text
 -- a number in front of the first that is above it
 abbrev pub insert_ascending : ℕ → List ℕ → List ℕ
 insert_ascending n [] = n ∷ []
-insert_ascending n (m ∷ numbers) = if nat_le n m then n ∷ m ∷ numbers else m ∷ insert_ascending n numbers
+insert_ascending n (m ∷ numbers) =
+    if nat_le n m then n ∷ m ∷ numbers else m ∷ insert_ascending n numbers
 
 -- numbers in ascending order
 abbrev pub in_ascending_order : List ℕ → List ℕ
@@ -93,37 +98,46 @@ utf8_text text = if is_utf8 text then Ok text else Err BadUtf8
 
 abbrev pub mandatory_value : List ℕ → Result Value ScanError
 mandatory_value text =
-    some_text text >>= λ list. read_items mandatory_item [] (comma_items list) >>= λ keys. short_value (Mandatory (in_ascending_order keys))
+    some_text text >>= λ list. read_items mandatory_item [] (comma_items list)
+        >>= λ keys. short_value (Mandatory (in_ascending_order keys))
 
 abbrev pub alpn_value : List ℕ → Result Value ScanError
 alpn_value text = some_text text >>= protocols_of >>= λ protocols. short_value (Alpn protocols)
 
 abbrev pub port_value : List ℕ → Result Value ScanError
-port_value text = some_text text >>= λ digits. ok_or (spelled_number (2 ^ 16) digits) BadPort >>= λ port. Ok (Port port)
+port_value text =
+    some_text text >>= λ digits. ok_or (spelled_number (2 ^ 16) digits) BadPort
+    >>= λ port. Ok (Port port)
 
 abbrev pub ipv4hint_value : List ℕ → Result Value ScanError
 ipv4hint_value text =
-    some_text text >>= λ list. read_items (address_item ipv4_of) [] (comma_items list) >>= λ addresses. short_value (Ipv4Hint addresses)
+    some_text text >>= λ list. read_items (address_item ipv4_of) [] (comma_items list)
+        >>= λ addresses. short_value (Ipv4Hint addresses)
 
 abbrev pub ech_value : List ℕ → Result Value ScanError
-ech_value text = some_text text >>= λ letters. ok_or (base64_of letters) BadBase64 >>= λ octets. short_value (Ech octets)
+ech_value text =
+    some_text text >>= λ letters. ok_or (base64_of letters) BadBase64
+    >>= λ octets. short_value (Ech octets)
 
 abbrev pub ipv6hint_value : List ℕ → Result Value ScanError
 ipv6hint_value text =
-    some_text text >>= λ list. read_items (address_item ipv6_of) [] (comma_items list) >>= λ addresses. short_value (Ipv6Hint addresses)
+    some_text text >>= λ list. read_items (address_item ipv6_of) [] (comma_items list)
+        >>= λ addresses. short_value (Ipv6Hint addresses)
 
 abbrev pub dohpath_value : List ℕ → Result Value ScanError
 dohpath_value text = utf8_text text >>= λ template. short_value (DohPath template)
 
 abbrev pub groups_value : List ℕ → Result Value ScanError
 groups_value text =
-    some_text text >>= λ list. read_items group_item [] (comma_items list) >>= λ groups. short_value (TlsSupportedGroups groups)
+    some_text text >>= λ list. read_items group_item [] (comma_items list)
+        >>= λ groups. short_value (TlsSupportedGroups groups)
 
 -- a value without a type
 abbrev pub opaque_value : ℕ → List ℕ → Result Value ScanError
 opaque_value key text = short_value (Unknown key text)
 
--- the value that a text spells under a key, or its first fault; a key without a type takes any octets
+-- the value that a text spells under a key, or its first fault; a key without a type takes any
+-- octets
 abbrev pub value_of_text : ℕ → List ℕ → Result Value ScanError
 value_of_text key text =
     if key == 0 then mandatory_value text

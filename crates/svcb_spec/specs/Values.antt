@@ -1,10 +1,11 @@
--- Values of service parameters and their octets (RFC 9460, sections 7 and 8; RFC 9461, section 5; RFC 9540, section 4).
+-- Values of service parameters and their octets (RFC 9460, sections 7 and 8; RFC 9461, section 5;
+-- RFC 9540, section 4).
 use Rattle.std.specs.Prelude.{◌≡◌, ℕ, ◌<◌, Bool, true, false, List, [], ◌∷◌, length, nat_lt}
 use Rattle.std.specs.List.{concat, flat_map}
 use Rattle.name_spec.specs.Octets.{be2}
 
--- A value of a type is its items: numbers, protocols, or addresses, each as its octets. A value without a type is any
--- octets of any key.
+-- A value of a type is its items: numbers, protocols, or addresses, each as its octets. A value
+-- without a type is any octets of any key.
 pub data Value : Type 0 where
   Mandatory : List ℕ → Value
   Alpn : List (List ℕ) → Value
@@ -59,7 +60,8 @@ abbrev pub Each : {A : Type 0} → (A → Type 0) → List A → Type 0
 Each P [] = Unit {0}
 Each P (x ∷ xs) = P x × Each P xs
 
--- numbers have 16 bits, protocols at most 255 octets, addresses 4 or 16; there is at least one group
+-- numbers have 16 bits, protocols at most 255 octets, addresses 4 or 16; there is at least one
+-- group
 abbrev pub HasItems : Value → Type 0
 HasItems (Mandatory keys) = Each (λ key. key < 65536) keys
 HasItems (Alpn protocols) = Each (λ protocol. length protocol < 256) protocols

@@ -46,23 +46,29 @@ has-set (m ∷ keys) n =
 
 -- ---- a number at its place
 
-pub has-insert_ascending : (k : ℕ) (numbers : List ℕ) (n : ℕ) → has (insert_ascending k numbers) n ≡ ((k == n) || has numbers n)
+pub has-insert_ascending : (k : ℕ) (numbers : List ℕ) (n : ℕ)
+    → has (insert_ascending k numbers) n ≡ ((k == n) || has numbers n)
 has-insert_ascending k [] n = refl
 has-insert_ascending k (m ∷ numbers) n =
-    elim (nat_le k m) as (λ b. has (cond b (k ∷ m ∷ numbers) (m ∷ insert_ascending k numbers)) n ≡ ((k == n) || ((m == n) || has numbers n))) [
+    elim (nat_le k m) as
+        (λ b. has (cond b (k ∷ m ∷ numbers) (m ∷ insert_ascending k numbers)) n
+        ≡ ((k == n) || ((m == n) || has numbers n))) [
       | true ↦ refl
-      | false ↦ ap (λ b. (m == n) || b) (has-insert_ascending k numbers n) ∙ or_swap (m == n) (k == n) (has numbers n)
+      | false ↦ ap (λ b. (m == n) || b) (has-insert_ascending k numbers n)
+          ∙ or_swap (m == n) (k == n) (has numbers n)
     ]
 
 -- a set takes a new key at its place
-pub insert_key-new : (keys : List ℕ) (k : ℕ) → has keys k ≡ false → insert_key nat_cmp keys k ≡ insert_ascending k keys
+pub insert_key-new : (keys : List ℕ) (k : ℕ) → has keys k ≡ false
+    → insert_key nat_cmp keys k ≡ insert_ascending k keys
 insert_key-new [] k new = refl
 insert_key-new (m ∷ keys) k new =
     let other : (m == k) ≡ false = or_first (m == k) (has keys k) new in
     let later : has keys k ≡ false = or_second (m == k) (has keys k) new in
     let apart : (k == m) ≡ false = test_swap k m ∙ other in
     elim (nat_lt k m) as (λ b. nat_lt k m ≡ b
-    → match_ordering (cond b Less (cond (k == m) Equal Greater)) (k ∷ m ∷ keys) (m ∷ keys) (m ∷ insert_key nat_cmp keys k)
+    → match_ordering (cond b Less (cond (k == m) Equal Greater)) (k ∷ m ∷ keys) (m ∷ keys)
+    (m ∷ insert_key nat_cmp keys k)
     ≡ cond (nat_le k m) (k ∷ m ∷ keys) (m ∷ insert_ascending k keys)) [
       | true ↦ λ e. let below : nat_le k m ≡ true = grind (arith, nat_tests) in rw below refl
       | false ↦ λ e.
@@ -74,16 +80,24 @@ insert_key-new (m ∷ keys) k new =
 
 pub has-ascending : (numbers : List ℕ) (n : ℕ) → has (in_ascending_order numbers) n ≡ has numbers n
 has-ascending [] n = refl
-has-ascending (m ∷ numbers) n = has-insert_ascending m (in_ascending_order numbers) n ∙ ap (λ b. (m == n) || b) (has-ascending numbers n)
+has-ascending (m ∷ numbers) n =
+    has-insert_ascending m (in_ascending_order numbers) n
+    ∙ ap (λ b. (m == n) || b) (has-ascending numbers n)
 
 -- two numbers are at their places, whichever comes first
-insert_ascending-swap : (a b : ℕ) (numbers : List ℕ) → insert_ascending a (insert_ascending b numbers) ≡ insert_ascending b (insert_ascending a numbers)
+insert_ascending-swap : (a b : ℕ) (numbers : List ℕ)
+    → insert_ascending a (insert_ascending b numbers)
+    ≡ insert_ascending b (insert_ascending a numbers)
 insert_ascending-swap a b [] = grind (arith, nat_tests)
-insert_ascending-swap a b (m ∷ numbers) = grind (arith, nat_tests, insert_ascending-swap a b numbers)
+insert_ascending-swap a b (m ∷ numbers) =
+    grind (arith, nat_tests, insert_ascending-swap a b numbers)
 
-pub ascending-last : (numbers : List ℕ) (n : ℕ) → in_ascending_order (numbers ++ n ∷ []) ≡ insert_ascending n (in_ascending_order numbers)
+pub ascending-last : (numbers : List ℕ) (n : ℕ)
+    → in_ascending_order (numbers ++ n ∷ []) ≡ insert_ascending n (in_ascending_order numbers)
 ascending-last [] n = refl
-ascending-last (m ∷ numbers) n = ap (insert_ascending m) (ascending-last numbers n) ∙ insert_ascending-swap m n (in_ascending_order numbers)
+ascending-last (m ∷ numbers) n =
+    ap (insert_ascending m) (ascending-last numbers n)
+    ∙ insert_ascending-swap m n (in_ascending_order numbers)
 
 -- ---- a set that is to have a number
 
@@ -96,11 +110,15 @@ denied a true is e = refl
 denied a false is e = absurd cc
 
 -- a set tells whether it took a number
-pub set_took : (keys : List ℕ) (n : ℕ) (added : Bool) → added ≡ not (list_any (is_at (nat_cmp n)) keys) → added ≡ true → has keys n ≡ false
-set_took keys n added is e = sym (has-set keys n) ∙ negated added (list_any (is_at (nat_cmp n)) keys) is e
+pub set_took : (keys : List ℕ) (n : ℕ) (added : Bool)
+    → added ≡ not (list_any (is_at (nat_cmp n)) keys) → added ≡ true → has keys n ≡ false
+set_took keys n added is e =
+    sym (has-set keys n) ∙ negated added (list_any (is_at (nat_cmp n)) keys) is e
 
-pub set_had : (keys : List ℕ) (n : ℕ) (added : Bool) → added ≡ not (list_any (is_at (nat_cmp n)) keys) → added ≡ false → has keys n ≡ true
-set_had keys n added is e = sym (has-set keys n) ∙ denied added (list_any (is_at (nat_cmp n)) keys) is e
+pub set_had : (keys : List ℕ) (n : ℕ) (added : Bool)
+    → added ≡ not (list_any (is_at (nat_cmp n)) keys) → added ≡ false → has keys n ≡ true
+set_had keys n added is e =
+    sym (has-set keys n) ∙ denied added (list_any (is_at (nat_cmp n)) keys) is e
 
 or_last : (a b : Bool) → (b || (a || false)) ≡ (a || b)
 or_last true true = refl
@@ -109,8 +127,10 @@ or_last false true = refl
 or_last false false = refl
 
 -- a set and a list that have the same numbers take one more
-pub has-both : (keys numbers : List ℕ) (k : ℕ) → ((n : ℕ) → has keys n ≡ has numbers n) → has keys k ≡ false
+pub has-both : (keys numbers : List ℕ) (k : ℕ) → ((n : ℕ) → has keys n ≡ has numbers n)
+    → has keys k ≡ false
     → (n : ℕ) → has (insert_key nat_cmp keys k) n ≡ has (numbers ++ k ∷ []) n
 has-both keys numbers k same new n =
-    ap (λ (ks : List ℕ). has ks n) (insert_key-new keys k new) ∙ has-insert_ascending k keys n ∙ ap (λ b. (k == n) || b) (same n)
+    ap (λ (ks : List ℕ). has ks n) (insert_key-new keys k new) ∙ has-insert_ascending k keys n
+        ∙ ap (λ b. (k == n) || b) (same n)
     ∙ sym (list_any-append (λ m. m == n) numbers (k ∷ []) ∙ or_last (k == n) (has numbers n))

@@ -22,7 +22,8 @@ pub utf8_text-ok : (text : List ℕ) → IsUtf8 text → utf8_text text ≡ Ok t
 utf8_text-ok text is = rw (is_utf8-from_IsUtf8 text is) refl
 
 pub utf8_text-bad : (text : List ℕ) → (IsUtf8 text → ⊥) → utf8_text text ≡ Err BadUtf8
-utf8_text-bad text bad = elim (is_utf8 text) as (λ b. is_utf8 text ≡ b → cond b (Ok text) (Err BadUtf8) ≡ Err BadUtf8) [
+utf8_text-bad text bad =
+    elim (is_utf8 text) as (λ b. is_utf8 text ≡ b → cond b (Ok text) (Err BadUtf8) ≡ Err BadUtf8) [
   | true ↦ λ e. absurd (bad (IsUtf8-from_is_utf8 text e))
   | false ↦ λ e. refl
 ] refl
@@ -34,13 +35,15 @@ short_value-ok value short =
     let fits : nat_lt 65535 (length (encode value)) ≡ false = grind (arith, nat_tests) in
     rw fits refl
 
-pub short_value-long : (value : Value) → 65535 < length (encode value) → short_value value ≡ Err LongValue
+pub short_value-long : (value : Value) → 65535 < length (encode value)
+    → short_value value ≡ Err LongValue
 short_value-long value long =
     let exceeds : nat_lt 65535 (length (encode value)) ≡ true = grind (arith, nat_tests) in
     rw exceeds refl
 
 -- a value that is not made is too long, unless memory is wanting
-pub cause_answers : (error : BuildValueError) (value : Value) → IsCause (length (encode value)) error
+pub cause_answers : (error : BuildValueError) (value : Value)
+    → IsCause (length (encode value)) error
     → Answers {T = Value} (λ v. v) (Err (scan_fault_of error)) (short_value value)
 cause_answers LongSvcParam value cause = short_value-long value cause
 cause_answers ShortBuf value cause = absurd cause
@@ -49,20 +52,27 @@ cause_answers NoMemory value cause = tt
 
 -- what is made of a value whose octets are counted answers as the value does
 module _ (made : Result Value BuildValueError) (outcome : Result Value ScanError) (value : Value)
-    (is : IfOk made (λ v. v ≡ value)) (passed : outcome ≡ result_map_both (λ v. v) scan_fault_of made) where
-  pub caused_answers : OnOk made (length (encode value) ≤ 65535) → IfErr made (IsCause (length (encode value))) → Answers {T = Value} (λ v. v) outcome (short_value value)
+    (is : IfOk made (λ v. v ≡ value))
+        (passed : outcome ≡ result_map_both (λ v. v) scan_fault_of made) where
+  pub caused_answers : OnOk made (length (encode value) ≤ 65535)
+      → IfErr made (IsCause (length (encode value)))
+      → Answers {T = Value} (λ v. v) outcome (short_value value)
   caused_answers short cause = rw passed (answer made is short cause)
     where
-      answer : (made : Result Value BuildValueError) → IfOk made (λ v. v ≡ value) → OnOk made (length (encode value) ≤ 65535) → IfErr made (IsCause (length (encode value)))
-          → Answers {T = Value} (λ v. v) (result_map_both (λ v. v) scan_fault_of made) (short_value value)
+      answer : (made : Result Value BuildValueError) → IfOk made (λ v. v ≡ value)
+          → OnOk made (length (encode value) ≤ 65535) → IfErr made (IsCause (length (encode value)))
+          → Answers {T = Value} (λ v. v) (result_map_both (λ v. v) scan_fault_of made)
+          (short_value value)
       answer (Ok v) is short cause = short_value-ok value short ∙ ap (λ (v : Value). Ok v) (sym is)
       answer (Err error) is short cause = cause_answers error value cause
 
-built_short : (made : Result Value BuildValueError) (len : ℕ) → IsBuilt made len → OnOk made (len ≤ 65535)
+built_short : (made : Result Value BuildValueError) (len : ℕ) → IsBuilt made len
+    → OnOk made (len ≤ 65535)
 built_short (Ok v) len built = built
 built_short (Err error) len built = tt
 
-built_cause : (made : Result Value BuildValueError) (len : ℕ) → IsBuilt made len → IfErr made (IsCause len)
+built_cause : (made : Result Value BuildValueError) (len : ℕ) → IsBuilt made len
+    → IfErr made (IsCause len)
 built_cause (Ok v) len built = tt
 built_cause (Err LongSvcParam) len built = built
 built_cause (Err ShortBuf) len built = built
@@ -70,15 +80,20 @@ built_cause (Err EmptyValue) len built = built
 built_cause (Err NoMemory) len built = built
 
 -- a value that has items is built as any value is
-pub built_not_empty : (made : Result Value BuildValueError) (len : ℕ) → 0 < len → IsBuiltNotEmpty made len → IsBuilt made len
+pub built_not_empty : (made : Result Value BuildValueError) (len : ℕ) → 0 < len
+    → IsBuiltNotEmpty made len → IsBuilt made len
 built_not_empty (Ok v) len some built = built.1
 built_not_empty (Err LongSvcParam) len some built = built
 built_not_empty (Err ShortBuf) len some built = built
 built_not_empty (Err EmptyValue) len some built = absurd (omega arith)
 built_not_empty (Err NoMemory) len some built = built.1
 
-pub built_answers : (made : Result Value BuildValueError) (outcome : Result Value ScanError) (value : Value) (len : ℕ) → IfOk made (λ v. v ≡ value)
-    → outcome ≡ result_map_both (λ v. v) scan_fault_of made → length (encode value) ≡ len → IsBuilt made len → Answers {T = Value} (λ v. v) outcome (short_value value)
+pub built_answers : (made : Result Value BuildValueError) (outcome : Result Value ScanError)
+    (value : Value) (len : ℕ) → IfOk made (λ v. v ≡ value)
+    → outcome ≡ result_map_both (λ v. v) scan_fault_of made → length (encode value) ≡ len
+        → IsBuilt made len → Answers {T = Value} (λ v. v) outcome (short_value value)
 built_answers made outcome value len is passed count built =
-    let counted : IsBuilt made (length (encode value)) = subst (λ (n : ℕ). IsBuilt made n) (sym count) built in
-    caused_answers made outcome value is passed (built_short made (length (encode value)) counted) (built_cause made (length (encode value)) counted)
+    let counted : IsBuilt made (length (encode value)) =
+        subst (λ (n : ℕ). IsBuilt made n) (sym count) built in
+    caused_answers made outcome value is passed (built_short made (length (encode value)) counted)
+        (built_cause made (length (encode value)) counted)

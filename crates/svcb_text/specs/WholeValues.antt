@@ -10,13 +10,15 @@ error_of Short = errors.ShortInput
 error_of Form = errors.Form
 
 -- what the octets under a key wholly are; nothing where the key isn't taken
-abbrev pub read_wholly : {Seen : Type 0} → Bool → Result Seen Fault → Result (Option Seen) ParseError
+abbrev pub read_wholly : {Seen : Type 0} → Bool → Result Seen Fault
+    → Result (Option Seen) ParseError
 read_wholly false read = Ok None
 read_wholly true (Ok value) = Ok (Some value)
 read_wholly true (Err fault) = Err (error_of fault)
 
 -- an answer of reading them, as contracts see it
-abbrev pub seen_answer : {V Seen : Type 0} → (V → Seen) → Result (Option V) ParseError → Result (Option Seen) ParseError
+abbrev pub seen_answer : {V Seen : Type 0} → (V → Seen) → Result (Option V) ParseError
+    → Result (Option Seen) ParseError
 seen_answer seen (Ok None) = Ok None
 seen_answer seen (Ok (Some value)) = Ok (Some (seen value))
 seen_answer seen (Err error) = Err error

@@ -17,14 +17,17 @@ some_written (Plain c) text = some_octets c text
 some_written (Escaped c) text = some_octets 92 (c ∷ text)
 some_written (Decimal c) text = grind (arith, nat_tests)
 
-same_test : (octets text : List ℕ) → (length octets == 0) ≡ (length text == 0) → (key : List ℕ) → with_text key text ≡ key_and_text key octets text
+same_test : (octets text : List ℕ) → (length octets == 0) ≡ (length text == 0) → (key : List ℕ)
+    → with_text key text ≡ key_and_text key octets text
 same_test octets text same key = ap (λ b. cond b key (key ++ 61 ∷ text)) (sym same)
 
 printed_test : (octets : List ℕ) → (length octets == 0) ≡ (length (printed_octets octets) == 0)
 printed_test [] = refl
-printed_test (c ∷ octets) = some_octets c octets ∙ sym (some_written (printed_as is_special c) (printed_octets octets))
+printed_test (c ∷ octets) =
+    some_octets c octets ∙ sym (some_written (printed_as is_special c) (printed_octets octets))
 
-utf8_test : (octets : List ℕ) (b : Bool) → (length octets == 0) ≡ (length (cond b octets (printed_octets octets)) == 0)
+utf8_test : (octets : List ℕ) (b : Bool)
+    → (length octets == 0) ≡ (length (cond b octets (printed_octets octets)) == 0)
 utf8_test octets true = refl
 utf8_test octets false = printed_test octets
 
@@ -36,13 +39,17 @@ base64_test (a ∷ b ∷ []) = grind (arith, nat_tests)
 base64_test (a ∷ b ∷ c ∷ octets) = grind (arith, nat_tests)
 
 -- a key and printed octets
-pub with_printed : (key octets : List ℕ) → with_text key (printed_octets octets) ≡ key_and_text key octets (printed_octets octets)
+pub with_printed : (key octets : List ℕ)
+    → with_text key (printed_octets octets) ≡ key_and_text key octets (printed_octets octets)
 with_printed key octets = same_test octets (printed_octets octets) (printed_test octets) key
 
 -- a key and a text that is UTF-8, else printed octets
-pub with_utf8 : (key octets : List ℕ) → with_text key (utf8_or_printed octets) ≡ key_and_text key octets (utf8_or_printed octets)
-with_utf8 key octets = same_test octets (utf8_or_printed octets) (utf8_test octets (is_utf8 octets)) key
+pub with_utf8 : (key octets : List ℕ)
+    → with_text key (utf8_or_printed octets) ≡ key_and_text key octets (utf8_or_printed octets)
+with_utf8 key octets =
+    same_test octets (utf8_or_printed octets) (utf8_test octets (is_utf8 octets)) key
 
 -- a key and base64
-pub with_base64 : (key octets : List ℕ) → with_text key (base64_text octets) ≡ key_and_text key octets (base64_text octets)
+pub with_base64 : (key octets : List ℕ)
+    → with_text key (base64_text octets) ≡ key_and_text key octets (base64_text octets)
 with_base64 key octets = same_test octets (base64_text octets) (base64_test octets) key

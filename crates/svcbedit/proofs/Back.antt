@@ -59,29 +59,35 @@ use Rattle.svcbedit.proofs.ReadData.{AreSmall, octets_from, label_octets, rdata_
 -- ---- inputs that aren't too long
 
 -- what is due to a command with such an input
-due-short : (command : Command) (input : List ℕ) → is_reading command ≡ true → length input ≤ MAX_INPUT → due (Some command) (Some input) ≡ Some (answer_of command input)
+due-short : (command : Command) (input : List ℕ) → is_reading command ≡ true
+    → length input ≤ MAX_INPUT → due (Some command) (Some input) ≡ Some (answer_of command input)
 due-short command input read few =
     let short : nat_lt MAX_INPUT (length input) ≡ false = grind (arith, nat_tests) in
     ap (λ is. option_map (answer_to command) (if is then Some input else Some [])) read
     ∙ ap (λ long. Some (if long then too_long else answer_of command input)) short
 
-scan_due : (rtype : ℕ) (input : List ℕ) (answer : report.Answer) → answer_of (Scan rtype) input ≡ answer → length input ≤ MAX_INPUT
+scan_due : (rtype : ℕ) (input : List ℕ) (answer : report.Answer)
+    → answer_of (Scan rtype) input ≡ answer → length input ≤ MAX_INPUT
     → due_to_scan rtype input ≡ Some answer
 unfolding is_reading
 scan_due rtype input answer is few = due-short (Scan rtype) input refl few ∙ ap (λ a. Some a) is
 
-show_due : (rtype : ℕ) (input : List ℕ) (answer : report.Answer) → answer_of (Show rtype) input ≡ answer → length input ≤ MAX_INPUT
+show_due : (rtype : ℕ) (input : List ℕ) (answer : report.Answer)
+    → answer_of (Show rtype) input ≡ answer → length input ≤ MAX_INPUT
     → due_to_show rtype input ≡ Some answer
 unfolding is_reading
 show_due rtype input answer is few = due-short (Show rtype) input refl few ∙ ap (λ a. Some a) is
 
 -- an input that is too long has another status
-shown_short : (rtype : ℕ) (input : List ℕ) (answer : report.Answer) → due_to_show rtype input ≡ Some answer → answer.status ≡ 0
+shown_short : (rtype : ℕ) (input : List ℕ) (answer : report.Answer)
+    → due_to_show rtype input ≡ Some answer → answer.status ≡ 0
     → answer_of (Show rtype) input ≡ answer
 unfolding is_reading
 shown_short rtype input answer is good = elim (cases_lt MAX_INPUT (length input)) [
-  | inl long ↦ absurd (let test : nat_lt MAX_INPUT (length input) ≡ true = grind (arith, nat_tests) in grind (arith))
-  | inr few ↦ let known = show_due rtype input (answer_of (Show rtype) input) refl (omega arith) in cc
+  | inl long ↦ absurd (let test : nat_lt MAX_INPUT (length input) ≡ true = grind (arith, nat_tests)
+      in grind (arith))
+  | inr few ↦ let known = show_due rtype input (answer_of (Show rtype) input) refl (omega arith)
+      in cc
 ]
 
 -- ---- texts
@@ -93,74 +99,95 @@ record IsShortData (rtype : ℕ) (found : RecordData) : Type 0 where
   fits : length (report.line (union_printed found)) < 16777216
 
 -- the line of a text is scanned as the text is
-line_scanned : (rtype : ℕ) (text : List ℕ) (found : RecordData) → IsScannedAs (union_scan rtype) text found
+line_scanned : (rtype : ℕ) (text : List ℕ) (found : RecordData)
+    → IsScannedAs (union_scan rtype) text found
     → entry_scanned (union_scan rtype) (report.line text) ≡ Ok found
 line_scanned rtype text found is =
     let line = report.line text in
     let tokens = is.has.0 in
     let read = has_tokens line tokens (line_again text tokens is.has.1) in
-    ap (λ (fault : Option ScanError). elim fault [ None ↦ (union_scan rtype (tokens_in line) 0).outcome | Some f ↦ Err f ]) read.0
+    ap (λ (fault : Option ScanError). elim fault
+        [ None ↦ (union_scan rtype (tokens_in line) 0).outcome | Some f ↦ Err f ]) read.0
     ∙ ap (λ (ts : List (List Symbol)). (union_scan rtype ts 0).outcome) read.1
     ∙ ap (λ (scanned : Scanned RecordData). scanned.outcome) (is.scanned tokens is.has.1)
 
-scanned_back : UnionTextReadBack → (rtype : ℕ) (found : RecordData) (text : List ℕ) → IsShortData rtype found → text ≡ report.line (union_printed found)
+scanned_back : UnionTextReadBack → (rtype : ℕ) (found : RecordData) (text : List ℕ)
+    → IsShortData rtype found → text ≡ report.line (union_printed found)
     → due_to_scan rtype text ≡ Some (report.done_answer (data_hexadecimal found))
 unfolding answer_of
 scanned_back texts rtype found text is text_is =
-    let is_text = subst (λ n. IsScannedAs (union_scan n) (union_printed found) found) is.number (texts found is.is_data) in
-    scan_due rtype text _ (ap (answer_of (Scan rtype)) text_is ∙ ap data_scanned (line_scanned rtype (union_printed found) found is_text))
-    (let fits = is.fits in subst (λ (line : List ℕ). length line ≤ MAX_INPUT) (sym text_is) (omega arith))
+    let is_text = subst (λ n. IsScannedAs (union_scan n) (union_printed found) found) is.number
+        (texts found is.is_data) in
+    scan_due rtype text _
+        (ap (answer_of (Scan rtype)) text_is
+        ∙ ap data_scanned (line_scanned rtype (union_printed found) found is_text))
+    (let fits = is.fits
+        in subst (λ (line : List ℕ). length line ≤ MAX_INPUT) (sym text_is) (omega arith))
 
 -- ---- wherever `show` writes a text
 
 -- what is read under a type number is data of it, whose line isn't too long
 abbrev IsReadShort : ℕ → Type 0
-IsReadShort rtype = (octets : List ℕ) (found : RecordData) → AreSmall octets → data_in rtype octets ≡ Ok found
+IsReadShort rtype = (octets : List ℕ) (found : RecordData) → AreSmall octets
+    → data_in rtype octets ≡ Ok found
     → IsShortData rtype found
 
-read_shown : (r : Result RecordData Fault) → (data_shown r).status ≡ 0 → (found : RecordData) × (r ≡ Ok found) × (data_shown r ≡ report.done_answer (union_printed found))
+read_shown : (r : Result RecordData Fault) → (data_shown r).status ≡ 0 → (found : RecordData)
+    × (r ≡ Ok found) × (data_shown r ≡ report.done_answer (union_printed found))
 read_shown (Ok found) is = (found, refl, refl)
 read_shown (Err fault) is = absurd (omega (arith, is))
 
-spelled_read : (rtype : ℕ) (spelled : Result (List ℕ) InputFault) → (spelled_show_answer rtype spelled).status ≡ 0
-    → (octets : List ℕ) × (spelled ≡ Ok octets) × ((data_shown (data_in rtype octets)).status ≡ 0) × (spelled_show_answer rtype spelled ≡ data_shown (data_in rtype octets))
+spelled_read : (rtype : ℕ) (spelled : Result (List ℕ) InputFault)
+    → (spelled_show_answer rtype spelled).status ≡ 0
+    → (octets : List ℕ) × (spelled ≡ Ok octets) × ((data_shown (data_in rtype octets)).status ≡ 0)
+        × (spelled_show_answer rtype spelled ≡ data_shown (data_in rtype octets))
 spelled_read rtype (Ok octets) is = (octets, refl, is, refl)
 spelled_read rtype (Err fault) is = absurd (omega (arith, is))
 
-some_needed : (line : Option (List ℕ)) (second : Option InputFault) (octets : List ℕ) → (line_or_fault 1 line >>= λ x. first_fault_or second (Ok x)) ≡ Ok octets → line ≡ Some octets
+some_needed : (line : Option (List ℕ)) (second : Option InputFault) (octets : List ℕ)
+    → (line_or_fault 1 line >>= λ x. first_fault_or second (Ok x)) ≡ Ok octets → line ≡ Some octets
 some_needed None second octets is = absurd cc
 some_needed (Some x) (Some fault) octets is = absurd cc
 some_needed (Some x) None octets is = cc
 
-ok_decoded : (r : Result (List ℕ) FromHexError) (octets : List ℕ) → result_ok r ≡ Some octets → r ≡ Ok octets
+ok_decoded : (r : Result (List ℕ) FromHexError) (octets : List ℕ) → result_ok r ≡ Some octets
+    → r ≡ Ok octets
 ok_decoded (Ok x) octets is = cc
 ok_decoded (Err error) octets is = absurd cc
 
-hexadecimal_small : (line : Option (List ℕ)) (octets : List ℕ) → option_and_then hexadecimal_octets line ≡ Some octets → AreSmall octets
+hexadecimal_small : (line : Option (List ℕ)) (octets : List ℕ)
+    → option_and_then hexadecimal_octets line ≡ Some octets → AreSmall octets
 hexadecimal_small None octets is = absurd cc
-hexadecimal_small (Some text) octets is = (decode_of-ok text octets (ok_decoded (decode_of text) octets is)).3
+hexadecimal_small (Some text) octets is =
+    (decode_of-ok text octets (ok_decoded (decode_of text) octets is)).3
 
-spelled_small : (all : List (List ℕ)) (octets : List ℕ) → only_line all ≡ Ok octets → AreSmall octets
+spelled_small : (all : List (List ℕ)) (octets : List ℕ) → only_line all ≡ Ok octets
+    → AreSmall octets
 spelled_small all octets is =
-    hexadecimal_small (slice_get all 0) octets (some_needed (option_and_then hexadecimal_octets (slice_get all 0)) (second_fault all) octets is)
+    hexadecimal_small (slice_get all 0) octets
+        (some_needed (option_and_then hexadecimal_octets (slice_get all 0))
+        (second_fault all) octets is)
 
 shown_back : UnionTextReadBack → (rtype : ℕ) → IsReadShort rtype → ShownIsScannedBack rtype
 unfolding answer_of
 shown_back texts rtype short input answer due_is good =
     let answer_is : show_answer rtype input ≡ answer = shown_short rtype input answer due_is good in
-    let shows : (show_answer rtype input).status ≡ 0 = ap (λ (a : report.Answer). a.status) answer_is ∙ good in
+    let shows : (show_answer rtype input).status ≡ 0 =
+        ap (λ (a : report.Answer). a.status) answer_is ∙ good in
     let given = spelled_read rtype (spelled_octets input) shows in
     let octets = given.0 in
     let read = read_shown (data_in rtype octets) given.2 in
     let found = read.0 in
     let is = short octets found (spelled_small (lines input) octets given.1) read.1 in
-    let text : show_answer rtype input ≡ report.done_answer (union_printed found) = given.3 ∙ read.2 in
+    let text : show_answer rtype input ≡ report.done_answer (union_printed found) =
+        given.3 ∙ read.2 in
     record {
       octets = octets;
       found = found;
       spelled = given.1;
       read = read.1;
-      scanned = scanned_back texts rtype found answer.report is (ap (λ (a : report.Answer). a.report) (sym answer_is ∙ text));
+      scanned = scanned_back texts rtype found answer.report is
+          (ap (λ (a : report.Answer). a.report) (sym answer_is ∙ text));
     }
 
 -- ---- what is read
@@ -169,32 +196,46 @@ not_below : (n : ℕ) → nat_lt n n ≡ false
 not_below n = grind (arith, nat_tests)
 
 -- what is read to the end
-whole_read : {V : Type 0} (type : V → RecordData) (end : ℕ) (r : Result V Fault) (found : RecordData)
-    → whole_data end (read_as type (reaching end r)) ≡ Ok found → (held : V) × (r ≡ Ok held) × (found ≡ type held)
+whole_read : {V : Type 0} (type : V → RecordData) (end : ℕ) (r : Result V Fault)
+    (found : RecordData)
+    → whole_data end (read_as type (reaching end r)) ≡ Ok found → (held : V) × (r ≡ Ok held)
+        × (found ≡ type held)
 whole_read type end (Err fault) found is = absurd cc
 whole_read type end (Ok held) found is =
     let here = ap (λ octets_left. cond octets_left (Err Form) (Ok (type held))) (not_below end) in
     let same = sym here ∙ is in
     (held, refl, cc)
 
-in_part : (octets_left : Bool) (held found : RecordData) → cond octets_left (Err Form) (Ok held) ≡ Ok found → found ≡ held
+in_part : (octets_left : Bool) (held found : RecordData)
+    → cond octets_left (Err Form) (Ok held) ≡ Ok found → found ≡ held
 in_part true held found none = absurd cc
 in_part false held found same = cc
 
 -- what is read up to some place
-part_read : {V : Type 0} (type : V → RecordData) (end : ℕ) (r : Result (DataRead V) Fault) (found : RecordData)
-    → whole_data end (read_as type r) ≡ Ok found → (held : DataRead V) × (r ≡ Ok held) × (found ≡ type held.value)
+part_read : {V : Type 0} (type : V → RecordData) (end : ℕ) (r : Result (DataRead V) Fault)
+    (found : RecordData)
+    → whole_data end (read_as type r) ≡ Ok found → (held : DataRead V) × (r ≡ Ok held)
+        × (found ≡ type held.value)
 part_read type end (Err fault) found is = absurd cc
-part_read type end (Ok held) found is = (held, refl, in_part (nat_lt held.next end) (type held.value) found is)
+part_read type end (Ok held) found is =
+    (held, refl, in_part (nat_lt held.next end) (type held.value) found is)
 
 -- a type of one form
-module _ (composed : FieldsComposedBack) (row : Row) (fits : LineFits row) (type : Data → RecordData) where
+module _ (composed : FieldsComposedBack) (row : Row) (fits : LineFits row)
+    (type : Data → RecordData) where
   fields_read : (octets : List ℕ) (found : RecordData) → AreSmall octets
-      → whole_data (length octets) (read_as type (reaching (length octets) (read_data row (octets_left (whole_message octets))))) ≡ Ok found
-      → (held : Data) × rows.IsAssociationData row held × (length (report.line (fields_printed row held)) < 16777216) × (found ≡ type held)
+      → whole_data (length octets)
+          (read_as type
+          (reaching (length octets) (read_data row (octets_left (whole_message octets)))))
+          ≡ Ok found
+      → (held : Data) × rows.IsAssociationData row held
+      × (length (report.line (fields_printed row held)) < 16777216) × (found ≡ type held)
   fields_read octets found small is =
-      let held = whole_read type (length octets) (read_data row (octets_left (whole_message octets))) found is in
-      let is_data = (composed row (octets_left (whole_message octets)) held.0 (label_octets octets 0 (length octets) (octets_from octets small)) held.1).0 in
+      let held = whole_read type (length octets)
+          (read_data row (octets_left (whole_message octets))) found is in
+      let is_data =
+          (composed row (octets_left (whole_message octets)) held.0
+          (label_octets octets 0 (length octets) (octets_from octets small)) held.1).0 in
       (held.0, is_data, fits held.0 is_data, held.2)
 
 module _ (composed : FieldsComposedBack) (fits : TypesLinesFit) where
@@ -220,7 +261,8 @@ module _ (composed : FieldsComposedBack) (fits : TypesLinesFit) where
 
   openpgpkey_short : IsReadShort 61
   openpgpkey_short octets found small is =
-      let held = fields_read composed openpgpkey fits.openpgpkey_fits Openpgpkey octets found small is in
+      let held = fields_read composed openpgpkey fits.openpgpkey_fits Openpgpkey octets found small
+          is in
       rw held.3 (record { number = refl; is_data = held.1; fits = held.2 })
 
   zonemd_short : IsReadShort 63
@@ -233,39 +275,50 @@ ipseckey_short composed fits octets found small is =
     let input = whole_message octets in
     let held = part_read Ipseckey (length octets) (ipseckey_read input) found is in
     let whole = composed input held.0 (octets_from octets small) (omega arith) held.1 in
-    rw held.2 (record { number = refl; is_data = (whole.is_data, whole.has_key); fits = fits held.0.value whole.is_data })
+    rw held.2 (record { number = refl; is_data = (whole.is_data, whole.has_key);
+        fits = fits held.0.value whole.is_data })
 
 all_octets : (octets : List ℕ) → length octets ≡ length octets - 0
 all_octets octets = omega arith
 
 module _ (is_data : ReadIsData) (fits : DataLineFits) where
-  service_data : (octets : List ℕ) (held : Record) → AreSmall octets → read octets 0 (length octets) ≡ Ok held → IsRecordOfOctets held
-  service_data octets held small is = is_data octets 0 (length octets) held (octets_from octets small) (omega arith) is
+  service_data : (octets : List ℕ) (held : Record) → AreSmall octets
+      → read octets 0 (length octets) ≡ Ok held → IsRecordOfOctets held
+  service_data octets held small is =
+      is_data octets 0 (length octets) held (octets_from octets small) (omega arith) is
 
   svcb_short : IsReadShort 64
   svcb_short octets found small is =
       let held = whole_read Svcb (length octets) (read octets 0 (length octets - 0)) found is in
-      let is_data = service_data octets held.0 small (ap (λ len. read octets 0 len) (all_octets octets) ∙ held.1) in
+      let is_data = service_data octets held.0 small
+          (ap (λ len. read octets 0 len) (all_octets octets) ∙ held.1) in
       rw held.2 (record { number = refl; is_data = is_data; fits = fits held.0 is_data })
 
   https_short : IsReadShort 65
   https_short octets found small is =
       let held = whole_read Https (length octets) (read octets 0 (length octets - 0)) found is in
-      let is_data = service_data octets held.0 small (ap (λ len. read octets 0 len) (all_octets octets) ∙ held.1) in
+      let is_data = service_data octets held.0 small
+          (ap (λ len. read octets 0 len) (all_octets octets) ∙ held.1) in
       rw held.2 (record { number = refl; is_data = is_data; fits = fits held.0 is_data })
 
 -- an address that is read has its octets
-address_held : (len : ℕ) (octets : List ℕ) (held : DataRead (List ℕ)) → AreSmall octets → address_read len (whole_message octets) ≡ Ok held
+address_held : (len : ℕ) (octets : List ℕ) (held : DataRead (List ℕ)) → AreSmall octets
+    → address_read len (whole_message octets) ≡ Ok held
     → IsAddress len held.value
 address_held len octets held small is = elim (cases_lt (length octets) (0 + len)) [
-  | inl short ↦ absurd (let test : nat_lt (length octets) (0 + len) ≡ true = grind (arith, nat_tests) in grind (arith))
+  | inl short ↦ absurd
+      (let test : nat_lt (length octets) (0 + len) ≡ true = grind (arith, nat_tests)
+      in grind (arith))
   | inr enough ↦
       let test : nat_lt (length octets) (0 + len) ≡ false = grind (arith, nat_tests) in
-      let read : DataRead (List ℕ) = record { value = next_octets len (whole_message octets); next = 0 + len } in
-      let here : address_read len (whole_message octets) ≡ Ok read = ap (λ short. cond short (Err Short) (Ok read)) test in
+      let read : DataRead (List ℕ) =
+          record { value = next_octets len (whole_message octets); next = 0 + len } in
+      let here : address_read len (whole_message octets) ≡ Ok read =
+          ap (λ short. cond short (Err Short) (Ok read)) test in
       let both : Ok held ≡ Ok read = sym is ∙ here in
       let same : held ≡ read = cc in
-      rw same (omega (arith, length-take (0 + len - 0) octets, enough), label_octets octets 0 (0 + len) (octets_from octets small))
+      rw same (omega (arith, length-take (0 + len - 0) octets, enough), label_octets octets 0
+          (0 + len) (octets_from octets small))
 ]
 
 a_short : IsReadShort 1
@@ -276,7 +329,8 @@ a_short octets found small is =
     rw held.2 (record {
       number = refl;
       is_data = is_address;
-      fits = omega (arith, ipv4-length address is_address.1, length-append (ipv4_text address) (10 ∷ []));
+      fits = omega
+          (arith, ipv4-length address is_address.1, length-append (ipv4_text address) (10 ∷ []));
     })
 
 aaaa_short : IsReadShort 28
@@ -287,34 +341,45 @@ aaaa_short octets found small is =
     rw held.2 (record {
       number = refl;
       is_data = is_address;
-      fits = omega (arith, ipv6-length address is_address.0 is_address.1, length-append (ipv6_text address) (10 ∷ []));
+      fits = omega
+          (arith, ipv6-length address is_address.0 is_address.1, length-append (ipv6_text address)
+          (10 ∷ []));
     })
 
 -- octets that are read are at most 65,535
-unknown_held : (rtype : ℕ) (octets : List ℕ) (held : UnknownData) → unknown_read rtype octets ≡ Ok held
+unknown_held : (rtype : ℕ) (octets : List ℕ) (held : UnknownData)
+    → unknown_read rtype octets ≡ Ok held
     → (length octets ≤ 65535) × (held ≡ record { rtype = rtype; octets = octets })
 unknown_held rtype octets held is = elim (cases_lt 65535 (length octets)) [
-  | inl long ↦ absurd (let test : nat_lt 65535 (length octets) ≡ true = grind (arith, nat_tests) in grind (arith))
+  | inl long ↦ absurd (let test : nat_lt 65535 (length octets) ≡ true = grind (arith, nat_tests)
+      in grind (arith))
   | inr few ↦
       let test : nat_lt 65535 (length octets) ≡ false = grind (arith, nat_tests) in
       let read : UnknownData = record { rtype = rtype; octets = octets } in
-      let here : unknown_read rtype octets ≡ Ok read = ap (λ long. cond long (Err Form) (Ok read)) test in
+      let here : unknown_read rtype octets ≡ Ok read =
+          ap (λ long. cond long (Err Form) (Ok read)) test in
       let both : Ok held ≡ Ok read = sym is ∙ here in
       (omega arith, cc)
 ]
 
 unknown_short : UnknownTextByOctets → (rtype : ℕ)
-    → ((octets : List ℕ) → data_in rtype octets ≡ whole_data (length octets) (read_as Unknown (reaching (length octets) (unknown_read rtype (octets_left (whole_message octets))))))
+    → ((octets : List ℕ)
+        → data_in rtype octets
+        ≡ whole_data (length octets)
+        (read_as Unknown
+        (reaching (length octets) (unknown_read rtype (octets_left (whole_message octets))))))
     → IsReadShort rtype
 unknown_short lengths rtype in_octets octets found small is =
     let all = octets_left (whole_message octets) in
-    let held = whole_read Unknown (length octets) (unknown_read rtype all) found (sym (in_octets octets) ∙ is) in
+    let held = whole_read Unknown (length octets) (unknown_read rtype all) found
+        (sym (in_octets octets) ∙ is) in
     let known = unknown_held rtype all held.0 held.1 in
     let are : AreOctets all = label_octets octets 0 (length octets) (octets_from octets small) in
     rw held.2 (rw known.1 (record {
       number = refl;
       is_data = (are, known.0);
-      fits = let by_octets = lengths all known.0 in let few = known.0 in omega (arith, by_octets, few, length-append (unknown_text all) (10 ∷ []));
+      fits = let by_octets = lengths all known.0 in let few = known.0
+          in omega (arith, by_octets, few, length-append (unknown_text all) (10 ∷ []));
     }))
 
 -- ---- every type
@@ -360,8 +425,14 @@ every_type lengths are rtype = elim (cases_eq rtype 1) [
                     | inr n64 ↦ elim (cases_eq rtype 65) [
                       | inl is ↦ rw is are.https
                       | inr n65 ↦ unknown_short lengths rtype (λ octets.
-                          rw (another rtype 1 n1) (rw (another rtype 28 n28) (rw (another rtype 44 n44) (rw (another rtype 45 n45) (rw (another rtype 52 n52) (
-                          rw (another rtype 59 n59) (rw (another rtype 60 n60) (rw (another rtype 61 n61) (rw (another rtype 63 n63) (rw (another rtype 64 n64) (
+                          rw (another rtype 1 n1)
+                              (rw (another rtype 28 n28)
+                              (rw (another rtype 44 n44)
+                              (rw (another rtype 45 n45) (rw (another rtype 52 n52) (
+                          rw (another rtype 59 n59)
+                              (rw (another rtype 60 n60)
+                              (rw (another rtype 61 n61)
+                              (rw (another rtype 63 n63) (rw (another rtype 64 n64) (
                           rw (another rtype 65 n65) (refl))))))))))))
                     ]
                   ]
@@ -378,7 +449,8 @@ every_type lengths are rtype = elim (cases_eq rtype 1) [
 pub types_back : UnionTextReadBack → UnknownTextByOctets → AreReadShort → TypesAreScannedBack
 types_back texts lengths are rtype = shown_back texts rtype (every_type lengths are rtype)
 
-pub are_short : ReadIsData → FieldsComposedBack → IpseckeyComposedBack → DataLineFits → TypesLinesFit → IpseckeyLineFits → AreReadShort
+pub are_short : ReadIsData → FieldsComposedBack → IpseckeyComposedBack → DataLineFits
+    → TypesLinesFit → IpseckeyLineFits → AreReadShort
 are_short is_data composed ipseckey_composed line_fits lines_fit ipseckey_fits = record {
   a = a_short;
   aaaa = aaaa_short;
@@ -404,33 +476,46 @@ no_line_end c digit = elim (cases_eq c 10) [
   | inr isnt ↦ grind (arith, nat_tests)
 ]
 
-digits_line : (digits : List ℕ) → AllPass is_hex_digit digits → pieces 10 (digits ++ 10 ∷ []) ≡ digits ∷ [] ∷ []
+digits_line : (digits : List ℕ) → AllPass is_hex_digit digits
+    → pieces 10 (digits ++ 10 ∷ []) ≡ digits ∷ [] ∷ []
 digits_line [] are = refl
 digits_line (c ∷ digits) are =
-    ap (λ ends. cond ends ([] ∷ pieces 10 (digits ++ 10 ∷ [])) (onto_first c (pieces 10 (digits ++ 10 ∷ [])))) (no_line_end c (All-head digit_holds c digits are))
+    ap (λ ends. cond ends ([] ∷ pieces 10 (digits ++ 10 ∷ []))
+        (onto_first c (pieces 10 (digits ++ 10 ∷ []))))
+        (no_line_end c (All-head digit_holds c digits are))
     ∙ ap (onto_first c) (digits_line digits (All-tail digit_holds c digits are))
 
 one_line : (line : List ℕ) → without_empty_last (line ∷ [] ∷ []) ≡ line ∷ []
 one_line [] = refl
 one_line (c ∷ line) = refl
 
-spelled_back : (octets : List ℕ) → AreSmall octets → spelled_octets (report.line (encode_lower octets)) ≡ Ok octets
+spelled_back : (octets : List ℕ) → AreSmall octets
+    → spelled_octets (report.line (encode_lower octets)) ≡ Ok octets
 spelled_back octets small =
     let digits = encode_lower octets in
     let back = decode_of-encode_lower octets small in
-    ap (λ all. only_line (without_empty_last all)) (digits_line digits (decode_of-ok digits octets back).1)
+    ap (λ all. only_line (without_empty_last all))
+        (digits_line digits (decode_of-ok digits octets back).1)
     ∙ ap only_line (one_line digits)
-    ∙ ap (λ (r : Result (List ℕ) FromHexError). line_or_fault 1 (result_ok r) >>= λ x. first_fault_or None (Ok x)) back
+    ∙ ap (λ (r : Result (List ℕ) FromHexError). line_or_fault 1 (result_ok r)
+    >>= λ x. first_fault_or None (Ok x)) back
 
 -- what is read back
-service_read : (type : Record → RecordData) (octets : List ℕ) (found : Record) → read octets 0 (length octets) ≡ Ok found
-    → whole_data (length octets) (read_as type (reaching (length octets) (read octets 0 (length octets - 0)))) ≡ Ok (type found)
+service_read : (type : Record → RecordData) (octets : List ℕ) (found : Record)
+    → read octets 0 (length octets) ≡ Ok found
+    → whole_data (length octets)
+        (read_as type (reaching (length octets) (read octets 0 (length octets - 0))))
+        ≡ Ok (type found)
 service_read type octets found is =
-    ap (λ (r : Result Record Fault). whole_data (length octets) (read_as type (reaching (length octets) r))) (sym (ap (λ len. read octets 0 len) (all_octets octets)) ∙ is)
+    ap (λ (r : Result Record Fault). whole_data (length octets)
+        (read_as type (reaching (length octets) r)))
+        (sym (ap (λ len. read octets 0 len) (all_octets octets)) ∙ is)
     ∙ ap (λ octets_left. cond octets_left (Err Form) (Ok (type found))) (not_below (length octets))
 
 -- the line of hexadecimal isn't too long
-hexadecimal_fits : (found : Record) → IsRecordOfOctets found → length (report.line (encode_lower (rdata found.priority found.labels found.pairs))) ≤ MAX_INPUT
+hexadecimal_fits : (found : Record) → IsRecordOfOctets found
+    → length (report.line (encode_lower (rdata found.priority found.labels found.pairs)))
+    ≤ MAX_INPUT
 hexadecimal_fits found is =
     let octets = rdata found.priority found.labels found.pairs in
     let long = length-encode_with lower_digits octets in
@@ -446,11 +531,17 @@ all_back read_back texts line_fits found is =
     let spelled = spelled_back octets (rdata_small found is) in
     let back = read_back found is.is_record in (
       record {
-        show_answer = show_due 64 given _ (ap (spelled_show_answer 64) spelled ∙ ap data_shown (service_read Svcb octets found back)) few;
-        scanned = scanned_back texts 64 (Svcb found) _ (record { number = refl; is_data = is; fits = line_fits found is }) refl;
+        show_answer = show_due 64 given _
+            (ap (spelled_show_answer 64) spelled
+            ∙ ap data_shown (service_read Svcb octets found back)) few;
+        scanned = scanned_back texts 64 (Svcb found) _
+            (record { number = refl; is_data = is; fits = line_fits found is }) refl;
       },
       record {
-        show_answer = show_due 65 given _ (ap (spelled_show_answer 65) spelled ∙ ap data_shown (service_read Https octets found back)) few;
-        scanned = scanned_back texts 65 (Https found) _ (record { number = refl; is_data = is; fits = line_fits found is }) refl;
+        show_answer = show_due 65 given _
+            (ap (spelled_show_answer 65) spelled
+            ∙ ap data_shown (service_read Https octets found back)) few;
+        scanned = scanned_back texts 65 (Https found) _
+            (record { number = refl; is_data = is; fits = line_fits found is }) refl;
       },
     )

@@ -8,9 +8,13 @@ use Rattle.svcb_spec.specs.Values.{Value}
 use Rattle.svcbedit.specs.Generate.{own_params, own_message, pushes_at, pushes_below}
 
 -- one parameter more
-pub own_message-more : (i : ℕ) → own_message (i + 1) ≡ own_message i ++ pair_wire (100 + 8 * i) (Some (be2 i))
+pub own_message-more : (i : ℕ)
+    → own_message (i + 1) ≡ own_message i ++ pair_wire (100 + 8 * i) (Some (be2 i))
 unfolding own_params
-own_message-more i = ap own_message (add-one i) ∙ sym (append_assoc (be2 1 ++ name_wire []) (own_params i) (pair_wire (100 + 8 * i) (Some (be2 i))))
+own_message-more i =
+    ap own_message (add-one i)
+    ∙ sym (append_assoc (be2 1 ++ name_wire []) (own_params i)
+    (pair_wire (100 + 8 * i) (Some (be2 i))))
 
 -- none
 pub own_message-none : own_message 0 ≡ 0 ∷ 1 ∷ 0 ∷ []
@@ -18,7 +22,8 @@ unfolding own_params
 own_message-none = refl
 
 -- what is left behind the values so far
-pub pushes_below-more : (front grown : List Value) (left : ℕ) (all : List Value) → 0 < left → grown ≡ front ++ pushes_at (left - 1)
+pub pushes_below-more : (front grown : List Value) (left : ℕ) (all : List Value) → 0 < left
+    → grown ≡ front ++ pushes_at (left - 1)
     → front ++ pushes_below left ≡ all → grown ++ pushes_below (left - 1) ≡ all
 unfolding pushes_below
 pushes_below-more front grown zero all some is whole = absurd (omega arith)
@@ -28,8 +33,10 @@ pushes_below-more front grown (suc j) all some is whole =
     ∙ ap (λ values. values ++ pushes_below j) (is ∙ ap (λ n. front ++ pushes_at n) one)
     ∙ append_assoc front (pushes_at j) (pushes_below j) ∙ whole
 
-pub pushes_below-none : (front : List Value) (left : ℕ) (all : List Value) → left ≡ 0 → front ++ pushes_below left ≡ all → front ≡ all
+pub pushes_below-none : (front : List Value) (left : ℕ) (all : List Value) → left ≡ 0
+    → front ++ pushes_below left ≡ all → front ≡ all
 unfolding pushes_below
-pushes_below-none front left all none whole = sym (append-nil front) ∙ ap (λ n. front ++ pushes_below n) (sym none) ∙ whole
+pushes_below-none front left all none whole =
+    sym (append-nil front) ∙ ap (λ n. front ++ pushes_below n) (sym none) ∙ whole
 
 pub ruleset own_message_steps = (own_message-more, own_message-none)

@@ -7,7 +7,8 @@ use Rattle.std.proofs.lemmas.List.Sums.{count_by-le-length, position_or_len_is, 
 use Rattle.std.specs.List.{position, position_or_len}
 use Rattle.svcbedit.specs.Lines.{pieces, lines, without_empty_last}
 
--- where the first separator stands at i, the pieces are what is before it, and those of what follows it
+-- where the first separator stands at i, the pieces are what is before it, and those of what
+-- follows it
 pub pieces-found : (c : ℕ) (xs : List ℕ) (i : ℕ) → position (λ b. b == c) xs ≡ Some i
     → pieces c xs ≡ take i xs ∷ pieces c (drop (i + 1) xs)
 pieces-found c xs i h =
@@ -25,7 +26,8 @@ pieces-none c xs h =
           let test = lt-ltb (position_or_len (λ b. b == c) xs) (length xs) within in
           let none = rw test at h in
           cc none
-      | inr past ↦ slice_split_none (λ b. b == c) xs (λ k d lt. fails_before_first (λ b. b == c) xs k d (omega arith))
+      | inr past ↦ slice_split_none (λ b. b == c) xs
+          (λ k d lt. fails_before_first (λ b. b == c) xs k d (omega arith))
     ]
 
 -- a piece before others is a line, also where it is empty
@@ -36,25 +38,31 @@ without_empty_last-cons [] (next ∷ more) some = refl
 without_empty_last-cons (b ∷ piece) (next ∷ more) some = refl
 
 -- a line that a separator ends is the first line
-pub lines-more : (line rest bytes : List ℕ) → pieces 10 bytes ≡ line ∷ pieces 10 rest → lines bytes ≡ line ∷ lines rest
+pub lines-more : (line rest bytes : List ℕ) → pieces 10 bytes ≡ line ∷ pieces 10 rest
+    → lines bytes ≡ line ∷ lines rest
 lines-more line rest bytes h =
     let count = length-slice_split (λ b. b == 10) rest in
     ap without_empty_last h ∙ without_empty_last-cons line (pieces 10 rest) (omega (arith, count))
 
 -- the one piece of bytes is a line, where there are any
-pub lines-last : (line bytes : List ℕ) → 0 < length bytes → pieces 10 bytes ≡ line ∷ [] → lines bytes ≡ line ∷ []
-lines-last [] bytes some h = let joined = rw h at (join_with_byte-slice_split 10 bytes) in absurd (omega (arith, ap length joined))
+pub lines-last : (line bytes : List ℕ) → 0 < length bytes → pieces 10 bytes ≡ line ∷ []
+    → lines bytes ≡ line ∷ []
+lines-last [] bytes some h = let joined = rw h at (join_with_byte-slice_split 10 bytes)
+    in absurd (omega (arith, ap length joined))
 lines-last (b ∷ line) bytes some h = ap without_empty_last h
 
 length-without_empty_last : (all : List (List ℕ)) → length (without_empty_last all) ≤ length all
 length-without_empty_last [] = omega arith
 length-without_empty_last ([] ∷ []) = omega arith
 length-without_empty_last ((b ∷ piece) ∷ []) = omega arith
-length-without_empty_last ([] ∷ next ∷ more) = let rest = length-without_empty_last (next ∷ more) in omega (arith, rest)
-length-without_empty_last ((b ∷ piece) ∷ next ∷ more) = let rest = length-without_empty_last (next ∷ more) in omega (arith, rest)
+length-without_empty_last ([] ∷ next ∷ more) = let rest = length-without_empty_last (next ∷ more)
+    in omega (arith, rest)
+length-without_empty_last ((b ∷ piece) ∷ next ∷ more) =
+    let rest = length-without_empty_last (next ∷ more) in omega (arith, rest)
 
 -- there are at most as many lines as bytes, and one
 pub length-lines : (bytes : List ℕ) → length (lines bytes) ≤ length bytes + 1
 length-lines bytes =
     let count = length-slice_split (λ b. b == 10) bytes in
-    omega (arith, count, length-without_empty_last (pieces 10 bytes), count_by-le-length (λ b. b == 10) bytes)
+    omega (arith, count, length-without_empty_last (pieces 10 bytes), count_by-le-length
+        (λ b. b == 10) bytes)

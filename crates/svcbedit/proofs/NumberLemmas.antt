@@ -18,7 +18,8 @@ IsAscii-digits (c ∷ cs) digits =
     IsAscii-cons c cs (omega (arith, parts.0.1)) (IsAscii-digits cs parts.1)
 
 -- without digits alone there is no number
-decimal_number-no_digits : (text : List ℕ) → all_ascii_digits text ≡ false → decimal_number text ≡ None
+decimal_number-no_digits : (text : List ℕ) → all_ascii_digits text ≡ false
+    → decimal_number text ≡ None
 decimal_number-no_digits text other = grind (arith, nat_tests)
 
 -- what is no text is no number
@@ -39,11 +40,14 @@ pub decimal_number-long : (text : List ℕ) → 10 < length text → decimal_num
 decimal_number-long text long = grind (arith, nat_tests)
 
 -- without a sign, `parse` reads what the definition does
-pub decimal_number-parsed : {E : Type 0} (text : List ℕ) (r : Result ℕ E) → ParsesUnsigned 32 10 text r
+pub decimal_number-parsed : {E : Type 0} (text : List ℕ) (r : Result ℕ E)
+    → ParsesUnsigned 32 10 text r
     → get_or text 0 0 ≢ 43 → length text ≤ 10 → result_ok r ≡ decimal_number text
 decimal_number-parsed {E} text (Ok n) parsed unsigned short =
-    let plain = parse_plain (numerals_by_value _ tells_all_ascii_digits) {E = E} 32 text (Ok n) parsed unsigned in
+    let plain = parse_plain (numerals_by_value _ tells_all_ascii_digits) {E = E} 32 text
+        (Ok n) parsed unsigned in
     grind (arith, nat_tests)
 decimal_number-parsed {E} text (Err e) parsed unsigned short =
-    let plain = parse_plain (numerals_by_value _ tells_all_ascii_digits) {E = E} 32 text (Err e) parsed unsigned in
+    let plain = parse_plain (numerals_by_value _ tells_all_ascii_digits) {E = E} 32 text
+        (Err e) parsed unsigned in
     grind (arith, nat_tests)

@@ -34,8 +34,10 @@ octets_take (suc n) (octet ∷ octets) are = (are.0, octets_take n octets are.1)
 abbrev joined : List (List ℕ) → List ℕ
 joined labels = flat_map (λ label. label) labels
 
-pub label_octets : (message : List ℕ) (from to : ℕ) → AreOctets message → AreOctets (slice_range message from to)
-label_octets message from to are = octets_take (to - from) (drop from message) (octets_drop from message are)
+pub label_octets : (message : List ℕ) (from to : ℕ) → AreOctets message
+    → AreOctets (slice_range message from to)
+label_octets message from to are =
+    octets_take (to - from) (drop from message) (octets_drop from message are)
 
 -- ---- the octets of data
 
@@ -47,26 +49,35 @@ small_from (octet ∷ octets) are (suc i) = small_from octets are.1 i
 be2_octets : (n : ℕ) → n < 65536 → AreOctets (be2 n)
 be2_octets n small = (omega arith, (omega arith, tt))
 
-wire_octets : (labels : List (List ℕ)) (octets : ℕ) → AreLabels octets labels → AreOctets (joined labels) → AreOctets (name_wire labels)
+wire_octets : (labels : List (List ℕ)) (octets : ℕ) → AreLabels octets labels
+    → AreOctets (joined labels) → AreOctets (name_wire labels)
 wire_octets [] octets are_labels are = (omega arith, tt)
 wire_octets (label ∷ labels) octets are_labels are =
     let parts = octets_parts label (joined labels) are in
     let small : length label < 64 = are_labels.1 in
-    (omega arith, octets_joined label (name_wire labels) parts.0 (wire_octets labels _ are_labels.3 parts.1))
+    (omega arith, octets_joined label (name_wire labels) parts.0
+        (wire_octets labels _ are_labels.3 parts.1))
 
-pairs_octets : (pairs : Pairs) (least : ℕ) → Ascends least pairs → HaveOctets pairs → AreOctets (pairs_wire pairs)
+pairs_octets : (pairs : Pairs) (least : ℕ) → Ascends least pairs → HaveOctets pairs
+    → AreOctets (pairs_wire pairs)
 pairs_octets [] least up are = tt
 pairs_octets (pair ∷ pairs) least up are =
     let key = be2_octets pair.0 up.1 in
     let len = be2_octets (length pair.1) up.2 in
     octets_joined (be2 pair.0 ++ be2 (length pair.1) ++ pair.1) (pairs_wire pairs)
-    (octets_joined (be2 pair.0 ++ be2 (length pair.1)) pair.1 (octets_joined (be2 pair.0) (be2 (length pair.1)) key len) are.0)
+    (octets_joined (be2 pair.0 ++ be2 (length pair.1)) pair.1
+        (octets_joined (be2 pair.0) (be2 (length pair.1)) key len) are.0)
     (pairs_octets pairs (pair.0 + 1) up.3 are.1)
 
-pub rdata_small : (found : Record) → IsRecordOfOctets found → AreSmall (rdata found.priority found.labels found.pairs)
+pub rdata_small : (found : Record) → IsRecordOfOctets found
+    → AreSmall (rdata found.priority found.labels found.pairs)
 rdata_small found is =
     let record_is = is.is_record in
-    let pairs = subst AreOctets (sym (wire-pairs found.pairs record_is.is_map)) (pairs_octets found.pairs 0 record_is.is_map is.values) in
+    let pairs = subst AreOctets (sym (wire-pairs found.pairs record_is.is_map))
+        (pairs_octets found.pairs 0 record_is.is_map is.values) in
     let front = be2 found.priority ++ name_wire found.labels in
-    small_from (front ++ wire found.pairs) (octets_joined front (wire found.pairs) (octets_joined (be2 found.priority) (name_wire found.labels) (be2_octets found.priority record_is.priority)
+    small_from (front ++ wire found.pairs)
+        (octets_joined front (wire found.pairs)
+        (octets_joined (be2 found.priority) (name_wire found.labels)
+        (be2_octets found.priority record_is.priority)
     (wire_octets found.labels 0 record_is.labels is.labels)) pairs)

@@ -1,4 +1,5 @@
--- What each command answers. A command has a row here where it answers, and one where it says whether it reads.
+-- What each command answers. A command has a row here where it answers, and one where it says
+-- whether it reads.
 use Rattle.std.specs.Prelude.{ℕ, Bool, true, false, nat_lt, if◌then◌else◌, Option, Some, None, List, [], length}
 use Rattle.std.specs.Option.{option_map}
 use Rattle.devices.specs.declared.transfer.TheConstants.{MAX_INPUT}
@@ -26,13 +27,16 @@ is_reading (Gen count) = false
 
 -- the answer of a command to an input
 abbrev pub answer_to : Command → List ℕ → Answer
-answer_to command input = if nat_lt MAX_INPUT (length input) then too_long else answer_of command input
+answer_to command input = if nat_lt MAX_INPUT (length input) then too_long
+    else answer_of command input
 
--- what a command is given of what the source has left: unknown where it reads a source that doesn't tell
+-- what a command is given of what the source has left: unknown where it reads a source that doesn't
+-- tell
 abbrev pub input_of : Command → Option (List ℕ) → Option (List ℕ)
 input_of command left = if is_reading command then left else Some []
 
--- The answer that is due to the words, where it is known. Words that are no command have an answer of their own.
+-- The answer that is due to the words, where it is known. Words that are no command have an answer
+-- of their own.
 abbrev pub due : Option Command → Option (List ℕ) → Option Answer
 due None left = Some no_command
 due (Some command) left = option_map (answer_to command) (input_of command left)

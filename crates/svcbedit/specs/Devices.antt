@@ -9,7 +9,8 @@ use Rattle.svcbedit.specs.Run.{Performs}
 use Rattle.svcbedit.specs.RunErrors.{SourceCause, SinkCause}
 use Rattle.svcbedit.specs.declared.run_error.RunError.{RunError}
 
--- The source is left alone, or all that an input may have is taken of it, and at most one octet beyond.
+-- The source is left alone, or all that an input may have is taken of it, and at most one octet
+-- beyond.
 pub record Draws {S T : Type 0} (reads : Bool) (left : S → Option (List ℕ)) (faults : S → ℕ)
     (old new : S) (result : Result T RunError) : Type 0 where
   pub unread : OnFalse reads (new ≡ old)

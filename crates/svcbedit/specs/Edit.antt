@@ -20,7 +20,9 @@ report_of whole (Ok done) = whole done
 
 -- the replies, and the octets in hexadecimal
 abbrev pub rebuild_report : Result Rebuilt Refusal → Answer
-rebuild_report = report_of (λ done. record { status = 0; report = reply_lines done.replies ++ line (encode_lower done.octets) })
+rebuild_report =
+    report_of (λ done. record
+    { status = 0; report = reply_lines done.replies ++ line (encode_lower done.octets) })
 
 -- to what an input spells
 abbrev pub spelled_edit_answer : Result Spelled InputFault → Answer

@@ -44,7 +44,8 @@ is_duplicate Accepted = false
 is_duplicate DuplicateKey = true
 is_duplicate ShortBuf = false
 
--- what a report says of two counts of replies, and of how many octets there are and what they sum to
+-- what a report says of two counts of replies, and of how many octets there are and what they sum
+-- to
 abbrev pub summary_text : ℕ → ℕ → ℕ → ℕ → List ℕ
 summary_text accepted duplicate octets total =
     codes "accepted " ++ decimal accepted ++ codes " duplicate " ++ decimal duplicate
@@ -56,10 +57,13 @@ summary rebuilt =
     summary_text (count_by is_accepted rebuilt.replies) (count_by is_duplicate rebuilt.replies)
     (length rebuilt.octets) (sum rebuilt.octets)
 
--- the data of so many parameters, with as many pushes, but at most 2000, and a limit of 65,532 octets
+-- the data of so many parameters, with as many pushes, but at most 2000, and a limit of 65,532
+-- octets
 abbrev pub own_rebuilt : ℕ → Result Rebuilt Refusal
-own_rebuilt count = rebuild (own_message count) 0 (length (own_message count)) (pushes_below (min count 2000)) 65532
+own_rebuilt count =
+    rebuild (own_message count) 0 (length (own_message count)) (pushes_below (min count 2000)) 65532
 
 -- the answer of `gen` to a count, which is at most 8000 where words give it
 abbrev pub gen_answer : ℕ → Answer
-gen_answer count = report_of (λ rebuilt. done_answer (summary rebuilt)) (own_rebuilt (min count 8000))
+gen_answer count =
+    report_of (λ rebuilt. done_answer (summary rebuilt)) (own_rebuilt (min count 8000))

@@ -29,9 +29,11 @@ pub record IsScannedBack (rtype : ℕ) (input text : List ℕ) : Type 0 where
   pub read : data_in rtype octets ≡ Ok found
   pub scanned : due_to_scan rtype text ≡ Some (done_answer (data_hexadecimal found))
 
--- wherever `show` writes a text for a type, `scan` gives of it exactly the octets of the data that was read
+-- wherever `show` writes a text for a type, `scan` gives of it exactly the octets of the data that
+-- was read
 abbrev pub ShownIsScannedBack : ℕ → Type 0
-ShownIsScannedBack rtype = (input : List ℕ) (answer : Answer) → due_to_show rtype input ≡ Some answer
+ShownIsScannedBack rtype = (input : List ℕ) (answer : Answer)
+    → due_to_show rtype input ≡ Some answer
     → answer.status ≡ 0 → IsScannedBack rtype input answer.report
 
 -- so it is for every type number
@@ -40,12 +42,15 @@ TypesAreScannedBack = (rtype : ℕ) → ShownIsScannedBack rtype
 
 -- `show` writes a text for data, and `scan` gives the same octets back
 pub record IsDataBack (rtype : ℕ) (found : RecordData) : Type 0 where
-  pub shown : due_to_show rtype (line (data_hexadecimal found)) ≡ Some (done_answer (union_printed found))
-  pub scanned : due_to_scan rtype (line (union_printed found)) ≡ Some (done_answer (data_hexadecimal found))
+  pub shown : due_to_show rtype (line (data_hexadecimal found))
+      ≡ Some (done_answer (union_printed found))
+  pub scanned : due_to_scan rtype (line (union_printed found))
+      ≡ Some (done_answer (data_hexadecimal found))
 
 -- so it is for any data of SVCB and of HTTPS
 abbrev pub AllDataBack : Type 0
-AllDataBack = (found : Record) → IsRecordOfOctets found → IsDataBack 64 (Svcb found) × IsDataBack 65 (Https found)
+AllDataBack = (found : Record) → IsRecordOfOctets found → IsDataBack 64 (Svcb found)
+    × IsDataBack 65 (Https found)
 
 -- an answer is known, and says that the command was done
 abbrev pub IsDone : Option Answer → Type 0

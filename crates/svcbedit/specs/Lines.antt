@@ -21,6 +21,7 @@ without_empty_last (piece ∷ more) = piece ∷ without_empty_last more
 abbrev pub lines : List ℕ → List (List ℕ)
 lines bytes = without_empty_last (pieces 10 bytes)
 
--- the words of a line, which single blanks join; two blanks in a row have an empty word between them
+-- the words of a line, which single blanks join; two blanks in a row have an empty word between
+-- them
 abbrev pub words : List ℕ → List (List ℕ)
 words line = pieces 32 line

@@ -6,5 +6,6 @@ use Rattle.std.specs.Str.Parse.{digits_value}
 -- one to ten decimal digits and no sign, of a value that fits 32 bits; zeros may lead
 abbrev pub decimal_number : List ℕ → Option ℕ
 decimal_number text =
-    if nat_le 1 (length text) && nat_le (length text) 10 && all_ascii_digits text && nat_lt (digits_value 10 text) (2 ^ 32)
+    if nat_le 1 (length text) && nat_le (length text) 10 && all_ascii_digits text && nat_lt
+        (digits_value 10 text) (2 ^ 32)
     then Some (digits_value 10 text) else None

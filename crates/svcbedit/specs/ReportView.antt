@@ -4,4 +4,5 @@ use Rattle.svcbedit.specs.Report as spec
 use Rattle.svcbedit.specs.declared.report.Answer.{Answer}
 
 abbrev pub answer_view : Answer → spec.Answer
-answer_view answer = record { status = spec.status_of answer.outcome; report = string_bytes answer.report }
+answer_view answer =
+    record { status = spec.status_of answer.outcome; report = string_bytes answer.report }

@@ -33,7 +33,8 @@ RunErrors NoMemory answer old new = Keeps old new
 
 -- how a command ends, before there is a status for each stop
 abbrev pub Performs : Result ℕ RunError → Option Answer → Option (List ℕ) → Option (List ℕ) → Type 0
-Performs (Ok status) answer old new = (status < 4) × IfSome answer (λ a. (status ≡ a.status) × Whole a old new)
+Performs (Ok status) answer old new =
+    (status < 4) × IfSome answer (λ a. (status ≡ a.status) × Whole a old new)
 Performs (Err stop) answer old new = RunErrors stop answer old new
 
 -- a write failed, which alone stops the program at words that are no command
@@ -48,7 +49,8 @@ IsNoWriteFault ReadFault = Unit {0}
 IsNoWriteFault WriteFault = ⊥
 IsNoWriteFault NoMemory = Unit {0}
 
--- The status is 1 for words that are no command, and for no others. Before such words only a write may fail.
+-- The status is 1 for words that are no command, and for no others. Before such words only a write
+-- may fail.
 abbrev pub TellsCommand : Option Command → Result ℕ RunError → Type 0
 TellsCommand None result = MatchResult result (λ status. status ≡ 1) IsWriteFault
 TellsCommand (Some command) result = IfOk result (λ status. status ≢ 1)

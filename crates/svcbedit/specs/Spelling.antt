@@ -10,7 +10,8 @@ use Rattle.svcbedit.specs.declared.spelling.InputFault.TheVariants.{BadLine}
 use Rattle.svcbedit.specs.declared.spelling.SpellError.{SpellError}
 use Rattle.svcbedit.specs.declared.spelling.SpellError.TheVariants.{Fault, NoMemory}
 
--- a message, the place of the record data in it, a limit on the parameters, and the values that are pushed
+-- a message, the place of the record data in it, a limit on the parameters, and the values that are
+-- pushed
 pub record Spelled : Type 0 where
   pub message : List ℕ
   pub start : ℕ
@@ -20,7 +21,8 @@ pub record Spelled : Type 0 where
 
 -- the next step, unless there is a fault
 infixl 10 ◌>>=◌
-abbrev pub ◌>>=◌ : {A B : Type 0} → Result A InputFault → (A → Result B InputFault) → Result B InputFault
+abbrev pub ◌>>=◌ : {A B : Type 0} → Result A InputFault → (A → Result B InputFault)
+    → Result B InputFault
 Ok x >>= f = f x
 Err fault >>= f = Err fault
 
@@ -38,7 +40,8 @@ pushes_of number (line ∷ more) = do
   Ok (push ∷ pushes)
 
 -- no more steps where there is a fault
-abbrev pub first_fault_or : {A : Type 0} → Option InputFault → Result A InputFault → Result A InputFault
+abbrev pub first_fault_or : {A : Type 0} → Option InputFault → Result A InputFault
+    → Result A InputFault
 first_fault_or (Some fault) next = Err fault
 first_fault_or None next = next
 
@@ -48,13 +51,15 @@ spelled_lines all = do
   place ← line_or_fault 1 (option_and_then place_of (slice_get all 0))
   message ← line_or_fault 2 (option_and_then hexadecimal_octets (slice_get all 1))
   pushes ← first_fault_or (place_fault place (length message)) (pushes_of 3 (drop 2 all))
-  Ok (record { message = message; start = place.start; len = place.len; limit = place.limit; pushes = pushes })
+  Ok (record { message = message; start = place.start; len = place.len; limit = place.limit;
+      pushes = pushes })
 
 -- what an input that isn't too long spells, or its first fault
 abbrev pub spelling_of : List ℕ → Result Spelled InputFault
 spelling_of bytes = spelled_lines (lines bytes)
 
--- A reader of the code answers, seen by `view`, what a definition gives. Want of memory says nothing of the input.
+-- A reader of the code answers, seen by `view`, what a definition gives. Want of memory says
+-- nothing of the input.
 abbrev pub IsFault : {Y : Type 0} → SpellError → Result Y InputFault → Type 0
 IsFault (Fault fault) given = given ≡ Err fault
 IsFault NoMemory given = Unit {0}

@@ -1,4 +1,5 @@
--- The lines of an input of `edit` that push what the text of a parameter spells (RFC 9460, section 2.1).
+-- The lines of an input of `edit` that push what the text of a parameter spells (RFC 9460, section
+-- 2.1).
 use Rattle.std.specs.Prelude.{ℕ, Option, Some, None, List, [], ◌∷◌, Result, Ok, Err, ◌≡◌}
 use Rattle.std.specs.Result.{result_ok}
 use Rattle.svcb_spec.specs.Values.{Value}
@@ -27,7 +28,8 @@ lone_token text = entry_tokens text >>= lone_token >>= λ token. Some (octets_of
 abbrev pub token_push : List ℕ → Option Value
 token_push line = lone_token line >>= λ octets. result_ok (spells octets)
 
--- A call answers, seen by `view`, what a line has, or that it has none. Want of memory says nothing of the line.
+-- A call answers, seen by `view`, what a line has, or that it has none. Want of memory says nothing
+-- of the line.
 abbrev pub ReadsAs : {X Y : Type 0} → (X → Y) → Result X ScanError → Option Y → Type 0
 ReadsAs view (Ok x) given = given ≡ Some (view x)
 ReadsAs view (Err NoMemory) given = Unit {0}

@@ -25,8 +25,8 @@ abbrev pub numbered_type : List ℕ → Option ℕ
 numbered_type word =
     if bytes_eq (take 4 word) (codes "type") then number_within 5 0 65535 (drop 4 word) else None
 
--- The number of the record type that a word names: its mnemonic in the registry of resource record types in lower case,
--- or any number.
+-- The number of the record type that a word names: its mnemonic in the registry of resource record
+-- types in lower case, or any number.
 unfoldable pub type_of : List ℕ → Option ℕ
 type_of word =
     if bytes_eq word (codes "a") then Some 1

@@ -10,7 +10,8 @@ use Rattle.text_spec.specs.Pieces.{is_escapable, IsSymbol, NoEscape}
 
 -- ---- what is written as an escape is read as one
 
-pub escape_of-escaped : (c : ℕ) (rest : List ℕ) → is_escapable c ≡ true → escape_of (c ∷ rest) ≡ Some (c, 1)
+pub escape_of-escaped : (c : ℕ) (rest : List ℕ) → is_escapable c ≡ true
+    → escape_of (c ∷ rest) ≡ Some (c, 1)
 escape_of-escaped c rest escapable = grind (arith, nat_tests)
 
 -- the digits of an octet
@@ -25,27 +26,35 @@ escape_of-decimal c rest octet = grind (arith, nat_tests)
 
 -- behind a backslash stand these octets, and an escape begins there
 abbrev pub Escape : List ℕ → Type 0
-Escape rest = (symbol : Written) × (more : List ℕ) × IsSymbol (λ _. false) symbol × (92 ∷ rest ≡ octet_text symbol ++ more)
+Escape rest = (symbol : Written) × (more : List ℕ) × IsSymbol (λ _. false) symbol
+    × (92 ∷ rest ≡ octet_text symbol ++ more)
 
-digits_back : (a b c : ℕ) → (is_ascii_digit a && is_ascii_digit b && is_ascii_digit c && nat_le (three_digits a b c) 255) ≡ true
-    → (48 + three_digits a b c / 100 ≡ a) × (48 + three_digits a b c / 10 % 10 ≡ b) × (48 + three_digits a b c % 10 ≡ c) × (three_digits a b c < 256)
+digits_back : (a b c : ℕ)
+    → (is_ascii_digit a && is_ascii_digit b && is_ascii_digit c && nat_le (three_digits a b c) 255)
+    ≡ true
+    → (48 + three_digits a b c / 100 ≡ a) × (48 + three_digits a b c / 10 % 10 ≡ b)
+        × (48 + three_digits a b c % 10 ≡ c) × (three_digits a b c < 256)
 digits_back a b c digits = grind (arith, nat_tests)
 
 are_digits : (a b c : ℕ) (rest : List ℕ) (e : ℕ × ℕ) → decimal_of (a ∷ b ∷ c ∷ rest) ≡ Some e
-    → (is_ascii_digit a && is_ascii_digit b && is_ascii_digit c && nat_le (three_digits a b c) 255) ≡ true
+    → (is_ascii_digit a && is_ascii_digit b && is_ascii_digit c && nat_le (three_digits a b c) 255)
+        ≡ true
 are_digits a b c rest e is = grind (arith, nat_tests)
 
-decimal_found : (a : ℕ) (rest : List ℕ) (e : ℕ × ℕ) → decimal_of (a ∷ rest) ≡ Some e → Escape (a ∷ rest)
+decimal_found : (a : ℕ) (rest : List ℕ) (e : ℕ × ℕ) → decimal_of (a ∷ rest) ≡ Some e
+    → Escape (a ∷ rest)
 decimal_found a [] e is = absurd cc
 decimal_found a (b ∷ []) e is = absurd cc
 decimal_found a (b ∷ c ∷ rest) e is =
     let back = digits_back a b c (are_digits a b c rest e is) in
     (Decimal (three_digits a b c), rest, back.3, cc)
 
-is_escapable_front : (a : ℕ) (rest : List ℕ) (e : ℕ × ℕ) → is_ascii_digit a ≡ false → escape_of (a ∷ rest) ≡ Some e → is_escapable a ≡ true
+is_escapable_front : (a : ℕ) (rest : List ℕ) (e : ℕ × ℕ) → is_ascii_digit a ≡ false
+    → escape_of (a ∷ rest) ≡ Some e → is_escapable a ≡ true
 is_escapable_front a rest e no_digit is = grind (arith, nat_tests)
 
-is_decimal : (a : ℕ) (rest : List ℕ) (e : ℕ × ℕ) → is_ascii_digit a ≡ true → escape_of (a ∷ rest) ≡ Some e → decimal_of (a ∷ rest) ≡ Some e
+is_decimal : (a : ℕ) (rest : List ℕ) (e : ℕ × ℕ) → is_ascii_digit a ≡ true
+    → escape_of (a ∷ rest) ≡ Some e → decimal_of (a ∷ rest) ≡ Some e
 is_decimal a rest e digit is = grind (arith, nat_tests)
 
 escape_found : (rest : List ℕ) (e : ℕ × ℕ) → escape_of rest ≡ Some e → Escape rest
@@ -74,7 +83,8 @@ escape_of-none rest none = go (escape_of rest) refl
   where
     go : (o : Option (ℕ × ℕ)) → escape_of rest ≡ o → o ≡ None
     go None is = refl
-    go (Some e) is = let (symbol, more, is_symbol, text) = escape_found rest e is in absurd (none symbol more is_symbol text)
+    go (Some e) is = let (symbol, more, is_symbol, text) = escape_found rest e is
+        in absurd (none symbol more is_symbol text)
 
 pub escape_or_none : (rest : List ℕ) → Escape rest ⊎ NoEscape rest
 escape_or_none rest = go (escape_of rest) refl

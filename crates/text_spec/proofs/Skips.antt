@@ -1,6 +1,6 @@
--- What the front of a text means, and what is left behind it. Offered to the crates above: `lexemes_at-skip`,
--- `lexemes_at-front`, and for functions that read a text lexeme by lexeme `lexemes_at-end`, `lexemes_at-refused` and
--- `lexemes_at-read`.
+-- What the front of a text means, and what is left behind it. Offered to the crates above:
+-- `lexemes_at-skip`, `lexemes_at-front`, and for functions that read a text lexeme by lexeme
+-- `lexemes_at-end`, `lexemes_at-refused` and `lexemes_at-read`.
 use Rattle.std.proofs.Common.{◌≡◌, ℕ, zero, suc, ◌-◌, Result, Ok, Err, List, [], ◌∷◌, length, drop, take, refl, sym, ap, ◌∙◌, arith}
 use Rattle.std.proofs.lemmas.List.{take_rest}
 use Rattle.text_spec.specs.declared.errors.ScanError.{ScanError}
@@ -10,7 +10,8 @@ use Rattle.text_spec.specs.declared.lexeme.Front.{Front}
 use Rattle.text_spec.specs.Lexing.{step, end_at, with_front, lexemes_at}
 
 -- octets that an earlier lexeme has are passed over
-pub lexemes_at-skip : (place : Place) (k : ℕ) (rest : List ℕ) → lexemes_at place k rest ≡ lexemes_at place 0 (drop k rest)
+pub lexemes_at-skip : (place : Place) (k : ℕ) (rest : List ℕ)
+    → lexemes_at place k rest ≡ lexemes_at place 0 (drop k rest)
 unfolding lexemes_at
 lexemes_at-skip place zero rest = refl
 lexemes_at-skip place (suc k) [] = refl
@@ -21,31 +22,41 @@ abbrev pub after : List ℕ → Result Front ScanError → Result (List Lexeme) 
 after rest (Err fault) = Err fault
 after rest (Ok front) = with_front front.lexeme (lexemes_at front.place front.len rest)
 
-pub lexemes_at-front : (place : Place) (c : ℕ) (rest : List ℕ) → lexemes_at place 0 (c ∷ rest) ≡ after rest (step place c rest)
+pub lexemes_at-front : (place : Place) (c : ℕ) (rest : List ℕ)
+    → lexemes_at place 0 (c ∷ rest) ≡ after rest (step place c rest)
 unfolding lexemes_at
 lexemes_at-front place c rest = refl
 
 -- nothing is left
-pub lexemes_at-end : (place : Place) (text : List ℕ) → length text ≡ 0 → lexemes_at place 0 text ≡ end_at place
+pub lexemes_at-end : (place : Place) (text : List ℕ) → length text ≡ 0
+    → lexemes_at place 0 text ≡ end_at place
 unfolding lexemes_at
 lexemes_at-end place [] none = refl
 lexemes_at-end place (c ∷ text) none = absurd (omega arith)
 
 -- the front is refused
-pub lexemes_at-refused : (place : Place) (c : ℕ) (rest text : List ℕ) (fault : ScanError) → text ≡ c ∷ rest → Err fault ≡ step place c rest
+pub lexemes_at-refused : (place : Place) (c : ℕ) (rest text : List ℕ) (fault : ScanError)
+    → text ≡ c ∷ rest → Err fault ≡ step place c rest
     → lexemes_at place 0 text ≡ Err fault
 lexemes_at-refused place c rest text fault is refused =
     ap (lexemes_at place 0) is ∙ lexemes_at-front place c rest ∙ ap (after rest) (sym refused)
 
 -- the front is a lexeme, and its octets are passed over
-pub lexemes_at-reads : (place : Place) (c : ℕ) (rest : List ℕ) (front : Front) → step place c rest ≡ Ok front
-    → lexemes_at place 0 (c ∷ rest) ≡ with_front front.lexeme (lexemes_at front.place 0 (drop front.len rest))
+pub lexemes_at-reads : (place : Place) (c : ℕ) (rest : List ℕ) (front : Front)
+    → step place c rest ≡ Ok front
+    → lexemes_at place 0 (c ∷ rest)
+        ≡ with_front front.lexeme (lexemes_at front.place 0 (drop front.len rest))
 lexemes_at-reads place c rest front is =
-    lexemes_at-front place c rest ∙ ap (after rest) is ∙ ap (with_front front.lexeme) (lexemes_at-skip front.place front.len rest)
+    lexemes_at-front place c rest ∙ ap (after rest) is
+        ∙ ap (with_front front.lexeme) (lexemes_at-skip front.place front.len rest)
 
 -- the same, with what is left as a range of a slice has it
-pub lexemes_at-read : (place : Place) (c : ℕ) (rest text : List ℕ) (front : Front) → text ≡ c ∷ rest → Ok front ≡ step place c rest
-    → lexemes_at place 0 text ≡ with_front front.lexeme (lexemes_at front.place 0 (take (length rest - front.len) (drop front.len rest)))
+pub lexemes_at-read : (place : Place) (c : ℕ) (rest text : List ℕ) (front : Front)
+    → text ≡ c ∷ rest → Ok front ≡ step place c rest
+    → lexemes_at place 0 text
+        ≡ with_front front.lexeme
+        (lexemes_at front.place 0 (take (length rest - front.len) (drop front.len rest)))
 lexemes_at-read place c rest text front is reads =
     ap (lexemes_at place 0) is ∙ lexemes_at-reads place c rest front (sym reads)
-    ∙ ap (λ left. with_front front.lexeme (lexemes_at front.place 0 left)) (sym (take_rest rest front.len))
+    ∙ ap (λ left. with_front front.lexeme (lexemes_at front.place 0 left))
+    (sym (take_rest rest front.len))

@@ -20,7 +20,8 @@ words text = map octets_of (tokens_in text)
 abbrev brackets : List ℕ
 brackets = codes "a \"b c\" \\; ( d ; x" ++ 10 ∷ codes " e )"
 
-tokens_in_brackets : words brackets ≡ codes "a" ∷ codes "b c" ∷ codes ";" ∷ codes "d" ∷ codes "e" ∷ []
+tokens_in_brackets : words brackets ≡ codes "a" ∷ codes "b c" ∷ codes ";" ∷ codes "d" ∷ codes "e"
+    ∷ []
 unfolding lexemes_at step
 tokens_in_brackets = refl
 
@@ -36,7 +37,8 @@ empty_token : words (codes "\"\"") ≡ [] ∷ []
 unfolding lexemes_at step
 empty_token = refl
 
-escapes : tokens_in (codes "\\#\\255") ≡ (record { octet = 35; escaped = true } ∷ record { octet = 255; escaped = true } ∷ []) ∷ []
+escapes : tokens_in (codes "\\#\\255")
+    ≡ (record { octet = 35; escaped = true } ∷ record { octet = 255; escaped = true } ∷ []) ∷ []
 unfolding lexemes_at step
 escapes = refl
 
@@ -149,7 +151,8 @@ printed-with_dot = refl
 
 -- a block with a comment behind its first token
 abbrev document : List Item
-document = BlockBegin ∷ Token (codes "10") ∷ Comment (codes "key tag") ∷ Token (codes "x") ∷ BlockEnd ∷ []
+document = BlockBegin ∷ Token (codes "10") ∷ Comment (codes "key tag") ∷ Token (codes "x")
+    ∷ BlockEnd ∷ []
 
 in_lines : laid_out_text Multiline document ≡ codes "( 10 ; key tag" ++ 10 ∷ 9 ∷ codes "x )"
 in_lines = refl

@@ -17,4 +17,5 @@ number_items text comment_name mnemonic =
 
 -- data of any type: the marker, the count of octets, and the octets in base16
 abbrev pub unknown_items : List ℕ → List Item
-unknown_items octets = Token (codes "\\#") ∷ Token (decimal (length octets)) ∷ Token (base16_text octets) ∷ []
+unknown_items octets =
+    Token (codes "\\#") ∷ Token (decimal (length octets)) ∷ Token (base16_text octets) ∷ []

@@ -22,6 +22,7 @@ letters = codes "ABCDEFGHIJKLMNOPQRSTUVWXYZabcdefghijklmnopqrstuvwxyz0123456789+
 abbrev pub base64_text : List ℕ → List ℕ
 base64_text octets = encode letters 61 true octets
 
--- the octets that a base64 text spells; the law `Base64Exact` says that it is the text of these octets and no other
+-- the octets that a base64 text spells; the law `Base64Exact` says that it is the text of these
+-- octets and no other
 abbrev pub base64_of : List ℕ → Option (List ℕ)
 base64_of text = result_ok (decode_of standard text)

@@ -24,17 +24,21 @@ TokensRead = (text : List ℕ) (tokens : List (List Symbol))
 
 -- a text has this fault exactly where it is the first that is found
 abbrev pub FaultRead : Type 0
-FaultRead = (text : List ℕ) (fault : ScanError) → HasFault 0 text fault ↔ (text_fault text ≡ Some fault)
+FaultRead = (text : List ℕ) (fault : ScanError) → HasFault 0 text fault
+    ↔ (text_fault text ≡ Some fault)
 
 -- the printed text of octets, at least one, is wholly the text of a token of these octets
 abbrev pub OctetsReadBack : Type 0
 OctetsReadBack = (octet : ℕ) (octets : List ℕ) → AreOctets (octet ∷ octets)
-    → (token : List Symbol) × IsTokenText (printed_octets (octet ∷ octets)) token × (octets_of token ≡ octet ∷ octets)
+    → (token : List Symbol) × IsTokenText (printed_octets (octet ∷ octets)) token
+        × (octets_of token ≡ octet ∷ octets)
 
 -- the printed text of a name with its final dot is wholly the text of a token that spells the name
 abbrev pub NameTextReadBack : Type 0
-NameTextReadBack = (labels : List (List ℕ)) → AreLabels 0 labels → AreOctets (flat_map (λ label. label) labels)
-    → (token : List Symbol) × IsTokenText (printed_name_with_dot labels) token × (name_of token ≡ Some labels)
+NameTextReadBack = (labels : List (List ℕ)) → AreLabels 0 labels
+    → AreOctets (flat_map (λ label. label) labels)
+    → (token : List Symbol) × IsTokenText (printed_name_with_dot labels) token
+        × (name_of token ≡ Some labels)
 
 -- a text is read as exactly the octets whose base64 text it is
 abbrev pub Base64Exact : Type 0
@@ -51,7 +55,8 @@ IsOwnToken text = (token : List Symbol) × IsTokenText text token × (octets_of 
 
 -- octets that each stand for themselves, at least one, are wholly a token of these octets
 abbrev pub PlainReadBack : Type 0
-PlainReadBack = (text : List ℕ) → 0 < length text → AllByRecursion (λ c. IsTrue (is_bare c)) text → IsOwnToken text
+PlainReadBack = (text : List ℕ) → 0 < length text → AllByRecursion (λ c. IsTrue (is_bare c)) text
+    → IsOwnToken text
 
 -- and so is the decimal text of a number
 abbrev pub DecimalReadBack : Type 0
@@ -59,19 +64,23 @@ DecimalReadBack = (n : ℕ) → n < 2 ^ 64 → IsOwnToken (decimal n)
 
 -- and the base16 text of octets, at least one
 abbrev pub Base16TokenText : Type 0
-Base16TokenText = (octets : List ℕ) → 0 < length octets → AreOctets octets → IsOwnToken (base16_text octets)
+Base16TokenText = (octets : List ℕ) → 0 < length octets → AreOctets octets
+    → IsOwnToken (base16_text octets)
 
 -- and the base64 text of octets, at least one
 abbrev pub Base64TokenText : Type 0
-Base64TokenText = (octets : List ℕ) → 0 < length octets → AreOctets octets → IsOwnToken (base64_text octets)
+Base64TokenText = (octets : List ℕ) → 0 < length octets → AreOctets octets
+    → IsOwnToken (base64_text octets)
 
 -- and the text of four octets as an IPv4 address
 abbrev pub Ipv4TokenText : Type 0
-Ipv4TokenText = (octets : List ℕ) → length octets ≡ 4 → AreOctets octets → IsOwnToken (ipv4_text octets)
+Ipv4TokenText = (octets : List ℕ) → length octets ≡ 4 → AreOctets octets
+    → IsOwnToken (ipv4_text octets)
 
 -- and the text of 16 octets as an IPv6 address
 abbrev pub Ipv6TokenText : Type 0
-Ipv6TokenText = (octets : List ℕ) → length octets ≡ 16 → AreOctets octets → IsOwnToken (ipv6_text octets)
+Ipv6TokenText = (octets : List ℕ) → length octets ≡ 16 → AreOctets octets
+    → IsOwnToken (ipv6_text octets)
 
 -- words, with a space between two of them and with brackets around some, have exactly their tokens
 abbrev pub WordsReadBack : Type 0

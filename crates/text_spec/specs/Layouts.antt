@@ -13,7 +13,8 @@ pub data Item : Type 0 where
   BlockBegin : Item
   BlockEnd : Item
 
--- the text so far, the count of blocks that are begun and not ended, and whether the last thing written is a comment
+-- the text so far, the count of blocks that are begun and not ended, and whether the last thing
+-- written is a comment
 pub record Layout : Type 0 where
   pub text : List ℕ
   pub blocks : ℕ
@@ -31,11 +32,13 @@ is_multiline Multiline = true
 abbrev pub separator : DisplayKind → Layout → List ℕ
 separator Simple layout = if length layout.text == 0 then [] else 32 ∷ []
 separator Tabbed layout = if length layout.text == 0 then [] else 9 ∷ []
-separator Multiline layout = if length layout.text == 0 then [] else (if layout.after_comment then [] else 32 ∷ [])
+separator Multiline layout =
+    if length layout.text == 0 then [] else (if layout.after_comment then [] else 32 ∷ [])
 
 -- a comment in a block: `; `, its text, a line's end and a tab
 abbrev pub comment_text : Layout → List ℕ → List ℕ
-comment_text layout text = (if layout.after_comment then [] else 32 ∷ []) ++ (59 ∷ 32 ∷ text ++ 10 ∷ 9 ∷ [])
+comment_text layout text =
+    (if layout.after_comment then [] else 32 ∷ []) ++ (59 ∷ 32 ∷ text ++ 10 ∷ 9 ∷ [])
 
 -- whether a comment is written
 abbrev pub shows_comment : DisplayKind → Layout → Bool
@@ -44,8 +47,10 @@ shows_comment kind layout = is_multiline kind && nat_lt 0 layout.blocks
 -- what an item writes; a token without a text writes nothing
 abbrev pub item_text : DisplayKind → Item → Layout → List ℕ
 item_text kind (Token text) layout = if length text == 0 then [] else separator kind layout ++ text
-item_text kind (Comment text) layout = if shows_comment kind layout then comment_text layout text else []
-item_text kind BlockBegin layout = if is_multiline kind then separator kind layout ++ 40 ∷ [] else []
+item_text kind (Comment text) layout = if shows_comment kind layout then comment_text layout text
+    else []
+item_text kind BlockBegin layout = if is_multiline kind then separator kind layout ++ 40 ∷ []
+    else []
 item_text kind BlockEnd layout = if is_multiline kind then separator kind layout ++ 41 ∷ [] else []
 
 -- how many blocks are begun and not ended behind an item
@@ -57,9 +62,12 @@ blocks_after BlockEnd blocks = blocks - 1
 
 -- whether the last thing written is a comment, behind an item
 abbrev pub after_comment_after : DisplayKind → Item → Layout → Bool
-after_comment_after kind (Token text) layout = if length text == 0 then layout.after_comment else false
-after_comment_after kind (Comment text) layout = if shows_comment kind layout then true else layout.after_comment
-after_comment_after kind BlockBegin layout = if is_multiline kind then false else layout.after_comment
+after_comment_after kind (Token text) layout = if length text == 0 then layout.after_comment
+    else false
+after_comment_after kind (Comment text) layout =
+    if shows_comment kind layout then true else layout.after_comment
+after_comment_after kind BlockBegin layout =
+    if is_multiline kind then false else layout.after_comment
 after_comment_after kind BlockEnd layout = if is_multiline kind then false else layout.after_comment
 
 -- one step for each item
@@ -108,7 +116,8 @@ pub record IsDocument (items : List Item) : Type 0 where
   pub closes : ClosesItsBlocks items
   pub comments : HasOneLineComments items
 
--- each token's text is wholly that of the token beside it; a token without a text is no token of the document
+-- each token's text is wholly that of the token beside it; a token without a text is no token of
+-- the document
 abbrev pub AreTokenTexts : List Item → List (List Symbol) → Type 0
 AreTokenTexts [] [] = Unit {0}
 AreTokenTexts [] (token ∷ tokens) = ⊥
@@ -127,7 +136,8 @@ pub record Sheet : Type 0 where
 
 -- a formatter behind these items
 abbrev pub laid_out : Sheet → List Item → Sheet
-laid_out sheet items = record { kind = sheet.kind; layout = layout_from sheet.kind items sheet.layout }
+laid_out sheet items =
+    record { kind = sheet.kind; layout = layout_from sheet.kind items sheet.layout }
 
 -- a front of the items was laid out
 abbrev pub StopsWithin : Sheet → List Item → Sheet → Type 0

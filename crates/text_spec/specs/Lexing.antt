@@ -1,5 +1,5 @@
--- How the text of one entry is read, octet by octet. The laws `TokensRead` and `FaultRead` say that this reads what
--- `Pieces` has as an entry, and finds the first fault of any other text.
+-- How the text of one entry is read, octet by octet. The laws `TokensRead` and `FaultRead` say that
+-- this reads what `Pieces` has as an entry, and finds the first fault of any other text.
 use Rattle.std.specs.Option.{option_map_or}
 use Rattle.std.specs.Prelude.{ℕ, zero, suc, ◌+◌, ◌-◌, ◌*◌, Bool, true, false, ◌&&◌, ◌||◌, not, nat_le, ◌==◌, if◌then◌else◌, List, [], ◌∷◌, length, Option, Some, None, Result, Ok, Err}
 use Rattle.std.specs.Char.{is_ascii_digit}
@@ -74,7 +74,8 @@ open_step place c rest =
     else (if c == 59 then front_of Gap place (line_len rest)
     else (if c == 40 then front_of Gap (with_depth place (place.depth + 1)) 0
     else (if c == 41 then
-    (if place.depth == 0 then Err BadBracket else front_of Gap (with_depth place (place.depth - 1)) 0)
+    (if place.depth == 0 then Err BadBracket
+        else front_of Gap (with_depth place (place.depth - 1)) 0)
     else (if c == 34 then front_of Quote (in_quotes place true) 0
     else (if is_control c then Err BadSymbol
     else symbol_step place c rest))))))
@@ -88,7 +89,8 @@ step place c rest =
 
 -- the text ends at a place
 abbrev pub end_at : Place → Result (List Lexeme) ScanError
-end_at place = if place.quoted then Err OpenQuote else (if place.depth == 0 then Ok [] else Err BadBracket)
+end_at place =
+    if place.quoted then Err OpenQuote else (if place.depth == 0 then Ok [] else Err BadBracket)
 
 -- a lexeme in front of the lexemes that follow it
 abbrev pub with_front : Lexeme → Result (List Lexeme) ScanError → Result (List Lexeme) ScanError

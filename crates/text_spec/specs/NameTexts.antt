@@ -21,7 +21,8 @@ onto_first octet (part ∷ parts) = (octet ∷ part) ∷ parts
 abbrev pub dotted_parts : List Symbol → List (List ℕ)
 dotted_parts [] = [] ∷ []
 dotted_parts (symbol ∷ symbols) =
-    if is_bare_octet 46 symbol then [] ∷ dotted_parts symbols else onto_first symbol.octet (dotted_parts symbols)
+    if is_bare_octet 46 symbol then [] ∷ dotted_parts symbols
+        else onto_first symbol.octet (dotted_parts symbols)
 
 -- parts without an empty last one behind another, so without what follows a final dot
 abbrev pub without_final_dot : List (List ℕ) → List (List ℕ)
@@ -30,7 +31,8 @@ without_final_dot (part ∷ []) = part ∷ []
 without_final_dot (part ∷ [] ∷ []) = part ∷ []
 without_final_dot (part ∷ next ∷ parts) = part ∷ without_final_dot (next ∷ parts)
 
--- whether labels have 1 to 63 octets each, and with their lengths, behind labels of so many octets, at most 254
+-- whether labels have 1 to 63 octets each, and with their lengths, behind labels of so many octets,
+-- at most 254
 abbrev pub are_labels : ℕ → List (List ℕ) → Bool
 are_labels octets [] = true
 are_labels octets (label ∷ labels) =

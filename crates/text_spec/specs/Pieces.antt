@@ -1,5 +1,6 @@
--- What the text of one entry is made of, and which tokens it has. An entry is what RFC 1035, section 5.1, has as one,
--- without owner, class and TTL; the order of its faults is this project's own.
+-- What the text of one entry is made of, and which tokens it has. An entry is what RFC 1035,
+-- section 5.1, has as one, without owner, class and TTL; the order of its faults is this project's
+-- own.
 use Rattle.std.specs.Prelude.{◌≡◌, ◌⊎◌, ℕ, zero, suc, ◌<◌, Bool, true, false, ◌&&◌, ◌||◌, not, IsTrue, nat_le, nat_lt, ◌==◌, List, [], ◌∷◌, ◌++◌, map, Option, Some, None}
 use Rattle.std.specs.List.{flat_map, AllByRecursion}
 use Rattle.std.specs.Char.{is_ascii_digit}
@@ -46,7 +47,8 @@ symbol_of (Decimal c) = record { octet = c; escaped = true }
 
 -- an octet that stands for itself outside quotes
 abbrev pub is_bare : ℕ → Bool
-is_bare c = not (is_blank c || (c == 10) || (c == 59) || (c == 40) || (c == 41) || (c == 34) || (c == 92)
+is_bare c = not
+    (is_blank c || (c == 10) || (c == 59) || (c == 40) || (c == 41) || (c == 34) || (c == 92)
     || is_control c)
 
 -- an octet that stands for itself in quotes
@@ -72,8 +74,8 @@ EndsLine (c ∷ rest) = c ≡ 10
 abbrev pub IsComment : List ℕ → List ℕ → Type 0
 IsComment text following = AllByRecursion (λ c. IsTrue (not (c == 10))) text × EndsLine following
 
--- Behind the line's end that ends the entry stand blanks, line ends and comments alone. At last holds what `ended`
--- says, and `rest` follows.
+-- Behind the line's end that ends the entry stand blanks, line ends and comments alone. At last
+-- holds what `ended` says, and `rest` follows.
 abbrev pub IsTailRow : Type 0 → List ℕ → List Piece → Type 0
 IsTailRow ended rest [] = ended
 IsTailRow ended rest (Blank c ∷ pieces) = IsTrue (is_blank c) × IsTailRow ended rest pieces
@@ -82,24 +84,30 @@ IsTailRow ended rest (Comment text ∷ pieces) =
     IsComment text (flat_map piece_octets pieces ++ rest) × IsTailRow ended rest pieces
 IsTailRow ended rest (piece ∷ pieces) = ⊥
 
--- These pieces may stand in a row, within so many brackets. At last holds what `within` says of the brackets that are
--- open, or what `ended` says behind the entry's last line, and `rest` follows.
+-- These pieces may stand in a row, within so many brackets. At last holds what `within` says of the
+-- brackets that are open, or what `ended` says behind the entry's last line, and `rest` follows.
 abbrev pub IsPieceRow : (ℕ → Type 0) → Type 0 → List ℕ → ℕ → List Piece → Type 0
 IsPieceRow within ended rest depth [] = within depth
-IsPieceRow within ended rest depth (Blank c ∷ pieces) = IsTrue (is_blank c) × IsPieceRow within ended rest depth pieces
+IsPieceRow within ended rest depth (Blank c ∷ pieces) =
+    IsTrue (is_blank c) × IsPieceRow within ended rest depth pieces
 IsPieceRow within ended rest zero (LineEnd ∷ pieces) = IsTailRow ended rest pieces
-IsPieceRow within ended rest (suc depth) (LineEnd ∷ pieces) = IsPieceRow within ended rest (suc depth) pieces
+IsPieceRow within ended rest (suc depth) (LineEnd ∷ pieces) =
+    IsPieceRow within ended rest (suc depth) pieces
 IsPieceRow within ended rest depth (Comment text ∷ pieces) =
-    IsComment text (flat_map piece_octets pieces ++ rest) × IsPieceRow within ended rest depth pieces
-IsPieceRow within ended rest depth (Opening ∷ pieces) = IsPieceRow within ended rest (suc depth) pieces
+    IsComment text (flat_map piece_octets pieces ++ rest)
+        × IsPieceRow within ended rest depth pieces
+IsPieceRow within ended rest depth (Opening ∷ pieces) =
+    IsPieceRow within ended rest (suc depth) pieces
 IsPieceRow within ended rest zero (Closing ∷ pieces) = ⊥
-IsPieceRow within ended rest (suc depth) (Closing ∷ pieces) = IsPieceRow within ended rest depth pieces
+IsPieceRow within ended rest (suc depth) (Closing ∷ pieces) =
+    IsPieceRow within ended rest depth pieces
 IsPieceRow within ended rest depth (Bare symbol ∷ pieces) =
     IsSymbol is_bare symbol × IsPieceRow within ended rest depth pieces
 IsPieceRow within ended rest depth (Quoted symbols ∷ pieces) =
     AllByRecursion (IsSymbol is_quotable) symbols × IsPieceRow within ended rest depth pieces
 
--- these pieces are the rest of an entry within so many brackets: all are closed, and nothing follows
+-- these pieces are the rest of an entry within so many brackets: all are closed, and nothing
+-- follows
 abbrev pub IsEntry : ℕ → List Piece → Type 0
 IsEntry depth pieces = IsPieceRow (λ d. d ≡ 0) (Unit {0}) [] depth pieces
 
@@ -109,8 +117,8 @@ lexemes_of (Bare symbol) = Octet (symbol_of symbol) ∷ []
 lexemes_of (Quoted symbols) = Quote ∷ map (λ w. Octet (symbol_of w)) symbols ++ Quote ∷ []
 lexemes_of piece = Gap ∷ []
 
--- A token is a longest row of adjoining bare symbols and quoted strings. Here `None` or the symbols of a token so far
--- stand in front.
+-- A token is a longest row of adjoining bare symbols and quoted strings. Here `None` or the symbols
+-- of a token so far stand in front.
 abbrev pub token_groups : Option (List Symbol) → List Lexeme → List (List Symbol)
 token_groups None [] = []
 token_groups (Some token) [] = token ∷ []
@@ -119,7 +127,8 @@ token_groups (Some token) (Gap ∷ lexemes) = token ∷ token_groups None lexeme
 token_groups None (Quote ∷ lexemes) = token_groups (Some []) lexemes
 token_groups (Some token) (Quote ∷ lexemes) = token_groups (Some token) lexemes
 token_groups None (Octet symbol ∷ lexemes) = token_groups (Some (symbol ∷ [])) lexemes
-token_groups (Some token) (Octet symbol ∷ lexemes) = token_groups (Some (token ++ symbol ∷ [])) lexemes
+token_groups (Some token) (Octet symbol ∷ lexemes) =
+    token_groups (Some (token ++ symbol ∷ [])) lexemes
 
 -- the tokens of pieces
 abbrev pub tokens_of : List Piece → List (List Symbol)
@@ -128,7 +137,8 @@ tokens_of pieces = token_groups None (flat_map lexemes_of pieces)
 -- the text is an entry, and has these tokens
 abbrev pub HasTokens : List ℕ → List (List Symbol) → Type 0
 HasTokens text tokens =
-    (pieces : List Piece) × IsEntry 0 pieces × (text ≡ flat_map piece_octets pieces) × (tokens ≡ tokens_of pieces)
+    (pieces : List Piece) × IsEntry 0 pieces × (text ≡ flat_map piece_octets pieces)
+        × (tokens ≡ tokens_of pieces)
 
 -- the pieces are parts of tokens
 abbrev pub AreParts : List Piece → Type 0
@@ -140,7 +150,8 @@ AreParts (piece ∷ pieces) = ⊥
 -- the text is wholly that of one token
 abbrev pub IsTokenText : List ℕ → List Symbol → Type 0
 IsTokenText text token =
-    (pieces : List Piece) × AreParts pieces × (text ≡ flat_map piece_octets pieces) × (tokens_of pieces ≡ token ∷ [])
+    (pieces : List Piece) × AreParts pieces × (text ≡ flat_map piece_octets pieces)
+        × (tokens_of pieces ≡ token ∷ [])
 
 -- ---- faults
 
@@ -179,8 +190,10 @@ FaultAfter rest fault = ⊥
 
 -- a row of pieces leads to the fault, or to a quote and symbols behind which it stands
 abbrev pub HasFault : ℕ → List ℕ → ScanError → Type 0
-HasFault depth text fault = (pieces : List Piece) × (rest : List ℕ) × (text ≡ flat_map piece_octets pieces ++ rest)
+HasFault depth text fault =
+    (pieces : List Piece) × (rest : List ℕ) × (text ≡ flat_map piece_octets pieces ++ rest)
     × (IsPieceRow (FaultAt rest fault) (FaultAfter rest fault) rest depth pieces
-    ⊎ ((symbols : List Written) × (after : List ℕ) × (rest ≡ 34 ∷ flat_map octet_text symbols ++ after)
+    ⊎ ((symbols : List Written) × (after : List ℕ)
+    × (rest ≡ 34 ∷ flat_map octet_text symbols ++ after)
     × AllByRecursion (IsSymbol is_quotable) symbols × FaultInQuotes after fault
     × IsPieceRow (λ _. Unit {0}) ⊥ rest depth pieces))

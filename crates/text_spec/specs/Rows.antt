@@ -47,8 +47,8 @@ ipv4_address = one (by_octets ipv4_of BadAddress)
 abbrev pub ipv6_address : Scanning (List ℕ)
 ipv6_address = one (by_octets ipv6_of BadAddress)
 
--- What follows the marker of data of any type (RFC 3597, section 5): a count, and that many octets in base16. A count
--- that isn't that of the octets is refused before its own token.
+-- What follows the marker of data of any type (RFC 3597, section 5): a count, and that many octets
+-- in base16. A count that isn't that of the octets is refused before its own token.
 abbrev pub unknown_data : Scanning (List ℕ)
 unknown_data tokens place =
     scan_then (number_below (2 ^ 16) tokens place) (λ count after.

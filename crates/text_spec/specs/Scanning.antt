@@ -38,26 +38,32 @@ at_token place (Ok x) = done x (place + 1)
 at_token place (Err fault) = refused fault place
 
 -- what the next token means
-abbrev pub next_token : {V : Type 0} → (List Symbol → Result V ScanError) → List (List Symbol) → ℕ → Result V ScanError
-next_token meaning tokens place = elim (slice_get tokens place) [ None ↦ Err errors.EndOfEntry | Some token ↦ meaning token ]
+abbrev pub next_token : {V : Type 0} → (List Symbol → Result V ScanError) → List (List Symbol) → ℕ
+    → Result V ScanError
+next_token meaning tokens place =
+    elim (slice_get tokens place) [ None ↦ Err errors.EndOfEntry | Some token ↦ meaning token ]
 
 -- one token, by what it means
 abbrev pub one : {V : Type 0} → (List Symbol → Result V ScanError) → Scanning V
 one meaning tokens place = at_token place (next_token meaning tokens place)
 
--- all tokens left, joined: their octets mean something, or there is a fault, which stands before the first of them
+-- all tokens left, joined: their octets mean something, or there is a fault, which stands before
+-- the first of them
 abbrev pub rest_by : {V : Type 0} → (List ℕ → Option V) → ScanError → Scanning V
 rest_by read fault tokens place =
-    elim (read (flat_map octets_of (drop place tokens))) [ None ↦ refused fault place | Some x ↦ done x (length tokens) ]
+    elim (read (flat_map octets_of (drop place tokens))) [ None ↦ refused fault place
+        | Some x ↦ done x (length tokens) ]
 
 -- scanning, and then more from where it stopped
 abbrev pub scan_then : {A B : Type 0} → Scanned A → (A → ℕ → Scanned B) → Scanned B
-scan_then first next = elim first.outcome [ Err fault ↦ refused fault first.place | Ok x ↦ next x first.place ]
+scan_then first next =
+    elim first.outcome [ Err fault ↦ refused fault first.place | Ok x ↦ next x first.place ]
 
 -- ---- what a token means
 
 -- its octets
-abbrev pub by_octets : {V : Type 0} → (List ℕ → Option V) → ScanError → List Symbol → Result V ScanError
+abbrev pub by_octets : {V : Type 0} → (List ℕ → Option V) → ScanError → List Symbol
+    → Result V ScanError
 by_octets read fault token = ok_or (read (octets_of token)) fault
 
 abbrev pub any_octets : List Symbol → Result (List ℕ) ScanError
@@ -71,11 +77,13 @@ is_marker (symbol ∷ next ∷ symbols) = false
 
 -- whether the next token is that
 abbrev pub is_marked : List (List Symbol) → ℕ → Bool
-is_marked tokens place = elim (slice_get tokens place) [ None ↦ false | Some token ↦ is_marker token ]
+is_marked tokens place =
+    elim (slice_get tokens place) [ None ↦ false | Some token ↦ is_marker token ]
 
 -- ---- what a call answers
 
--- A call answers as scanning does, seen by `view`. Only want of memory may stand in place of an answer.
+-- A call answers as scanning does, seen by `view`. Only want of memory may stand in place of an
+-- answer.
 abbrev pub Answers : {T V : Type 0} → (T → V) → Result T ScanError → Result V ScanError → Type 0
 Answers view (Ok x) outcome = outcome ≡ Ok (view x)
 Answers view (Err errors.NoMemory) outcome = Unit {0}
@@ -93,15 +101,18 @@ StandsBehind (Ok x) place before after = after ≡ place
 StandsBehind (Err errors.NoMemory) place before after = before ≤ after
 StandsBehind (Err fault) place before after = after ≡ place
 
--- A call that scans: its answer, seen by `view`, and where the scanner stands then, are those of `scanning` from where
--- it stood before. The entry's tokens stay. Where memory was wanting, the scanner stands where it stood.
-pub record Scans {T V : Type 0} (view : T → V) (scanning : Scanning V) (old new : Scan) (result : Result T ScanError)
+-- A call that scans: its answer, seen by `view`, and where the scanner stands then, are those of
+-- `scanning` from where it stood before. The entry's tokens stay. Where memory was wanting, the
+-- scanner stands where it stood.
+pub record Scans {T V : Type 0} (view : T → V) (scanning : Scanning V) (old new : Scan)
+    (result : Result T ScanError)
     : Type 0 where
   pub answer : Answers view result (scanning old.tokens old.taken).outcome
   pub place : StandsAt result (scanning old.tokens old.taken).place old.taken new.taken
   pub tokens : new.tokens ≡ old.tokens
 
--- a call that is a part of a scan: the same, but where memory was wanting, tokens may have been taken
+-- a call that is a part of a scan: the same, but where memory was wanting, tokens may have been
+-- taken
 pub record ScansPart {T V : Type 0} (view : T → V) (scanning : Scanning V) (old new : Scan)
     (result : Result T ScanError) : Type 0 where
   pub answer : Answers view result (scanning old.tokens old.taken).outcome

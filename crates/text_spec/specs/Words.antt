@@ -20,12 +20,14 @@ words_text [] = []
 words_text (word ∷ []) = word_text word
 words_text (word ∷ next ∷ words) = word_text word ++ 32 ∷ words_text (next ∷ words)
 
--- the texts are each wholly that of the token beside it, and the brackets, so many of which are open, are closed
+-- the texts are each wholly that of the token beside it, and the brackets, so many of which are
+-- open, are closed
 abbrev pub AreWords : ℕ → List Word → List (List Symbol) → Type 0
 AreWords depth [] [] = depth ≡ 0
 AreWords depth [] (token ∷ tokens) = ⊥
 AreWords depth (Text text ∷ words) [] = ⊥
-AreWords depth (Text text ∷ words) (token ∷ tokens) = IsTokenText text token × AreWords depth words tokens
+AreWords depth (Text text ∷ words) (token ∷ tokens) =
+    IsTokenText text token × AreWords depth words tokens
 AreWords depth (OpeningBracket ∷ words) tokens = AreWords (suc depth) words tokens
 AreWords zero (ClosingBracket ∷ words) tokens = ⊥
 AreWords (suc depth) (ClosingBracket ∷ words) tokens = AreWords depth words tokens

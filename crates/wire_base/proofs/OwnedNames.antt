@@ -9,7 +9,8 @@ use Rattle.wire_base.specs.NameView.{IsPlace, IsName, labels_of}
 use Rattle.wire_base.specs.OwnedNameView.{labels_found, labels_in, IsWholeName}
 
 -- octets that a name was found in
-whole_name : (octets : List ℕ) (labels : List (List ℕ)) → name_in octets ≡ Ok labels → IsWholeName octets
+whole_name : (octets : List ℕ) (labels : List (List ℕ)) → name_in octets ≡ Ok labels
+    → IsWholeName octets
 whole_name octets labels found =
     let same : labels_in octets ≡ labels = ap labels_found found in
     record {
@@ -19,7 +20,8 @@ whole_name octets labels found =
     }
 
 -- the octets of labels
-module _ (octets : List ℕ) (labels : List (List ℕ)) (wire : octets ≡ name_wire labels) (are : AreLabels 0 labels) where
+module _ (octets : List ℕ) (labels : List (List ℕ)) (wire : octets ≡ name_wire labels)
+    (are : AreLabels 0 labels) where
   found : name_in octets ≡ Ok labels
   found = ap name_in wire ∙ name_in-name_wire labels are
 
@@ -52,7 +54,8 @@ pub labels_fit : (labels : List (List ℕ)) → AreLabels 0 labels → length la
 labels_fit labels are = omega (arith, length-labels 0 labels (omega arith) are)
 
 -- a name has one octet exactly if it is the root
-pub is_root-wire : (labels : List (List ℕ)) → (length (name_wire labels) == 1) ≡ (length labels == 0)
+pub is_root-wire : (labels : List (List ℕ))
+    → (length (name_wire labels) == 1) ≡ (length labels == 0)
 is_root-wire [] = refl
 is_root-wire (label ∷ labels) =
     let long = length-append label (name_wire labels) in
@@ -69,7 +72,9 @@ module _ (octets : List ℕ) (root : octets ≡ 0 ∷ []) where
 
 pub ruleset root_rules = (IsWholeName-root, labels_in-root)
 
-pub ruleset wire_rules = (IsWholeName-wire, labels_in-wire, labels_of-wire, IsPlace-wire, name_fits, labels_fit, is_root-wire)
+pub ruleset wire_rules =
+    (IsWholeName-wire, labels_in-wire, labels_of-wire, IsPlace-wire, name_fits, labels_fit,
+    is_root-wire)
 
 -- ---- reading octets that are wholly a name
 
@@ -78,26 +83,44 @@ module _ (octets : List ℕ) where
   pointed_name = name_in-pointed octets
 
   module _ (plain : is_pointed octets (length octets) 0 ≡ false) where
-    pub faulty_name : (fault : Fault) → name_at octets (length octets) 0 0 0 ≡ Err fault → name_in octets ≡ Err fault
-    faulty_name fault read = name_in-plain octets plain ∙ ap (λ (r : Result NameRead Fault). r >>= labels_to (length octets)) read
+    pub faulty_name : (fault : Fault) → name_at octets (length octets) 0 0 0 ≡ Err fault
+        → name_in octets ≡ Err fault
+    faulty_name fault read =
+        name_in-plain octets plain
+        ∙ ap (λ (r : Result NameRead Fault). r >>= labels_to (length octets)) read
 
-    labels_to_end : (labels : List (List ℕ)) (next : ℕ) → name_at octets (length octets) 0 0 0 ≡ Ok (record { labels = labels; next = next })
+    labels_to_end : (labels : List (List ℕ)) (next : ℕ)
+        → name_at octets (length octets) 0 0 0 ≡ Ok (record { labels = labels; next = next })
         → name_in octets ≡ (if next == length octets then Ok labels else Err Form)
-    labels_to_end labels next read = name_in-plain octets plain ∙ ap (λ (r : Result NameRead Fault). r >>= labels_to (length octets)) read
+    labels_to_end labels next read =
+        name_in-plain octets plain
+        ∙ ap (λ (r : Result NameRead Fault). r >>= labels_to (length octets)) read
 
-    pub checked_name : (labels : List (List ℕ)) (next : ℕ) → name_at octets (length octets) 0 0 0 ≡ Ok (record { labels = labels; next = next }) → next ≡ length octets → IsWholeName octets
+    pub checked_name : (labels : List (List ℕ)) (next : ℕ)
+        → name_at octets (length octets) 0 0 0 ≡ Ok (record { labels = labels; next = next })
+        → next ≡ length octets → IsWholeName octets
     checked_name labels next read whole =
-        whole_name octets labels (labels_to_end labels next read ∙ ap (λ (test : Bool). if test then Ok labels else Err Form) (let same : (next == length octets) ≡ true = grind (arith, nat_tests) in same))
+        whole_name octets labels
+            (labels_to_end labels next read
+            ∙ ap (λ (test : Bool). if test then Ok labels else Err Form)
+            (let same : (next == length octets) ≡ true = grind (arith, nat_tests) in same))
 
-    pub name_before : (labels : List (List ℕ)) (next : ℕ) → name_at octets (length octets) 0 0 0 ≡ Ok (record { labels = labels; next = next }) → (next == length octets) ≡ false → name_in octets ≡ Err Form
-    name_before labels next read over = labels_to_end labels next read ∙ ap (λ (test : Bool). if test then Ok labels else Err Form) over
+    pub name_before : (labels : List (List ℕ)) (next : ℕ)
+        → name_at octets (length octets) 0 0 0 ≡ Ok (record { labels = labels; next = next })
+        → (next == length octets) ≡ false → name_in octets ≡ Err Form
+    name_before labels next read over =
+        labels_to_end labels next read
+        ∙ ap (λ (test : Bool). if test then Ok labels else Err Form) over
 
 pub ruleset reading_rules = (pointed_name, faulty_name, checked_name, name_before)
 
 -- ---- names that were read in a message
 
-labels_of-read : (message : List ℕ) (end start : ℕ) (read : Result NameRead Fault) → end ≤ length message → name_at message end start 0 0 ≡ read → IsOk read → AreLabels 0 (labels_of read)
-labels_of-read message end start (Ok name) within is ok = AreLabels-read message end start 0 0 name within is
+labels_of-read : (message : List ℕ) (end start : ℕ) (read : Result NameRead Fault)
+    → end ≤ length message → name_at message end start 0 0 ≡ read → IsOk read
+    → AreLabels 0 (labels_of read)
+labels_of-read message end start (Ok name) within is ok =
+    AreLabels-read message end start 0 0 name within is
 labels_of-read message end start (Err fault) within is ok = absurd cc
 
 module _ (message : List ℕ) (end start len : ℕ) (name : IsName message end start len) where
@@ -105,7 +128,8 @@ module _ (message : List ℕ) (end start len : ℕ) (name : IsName message end s
   AreLabels-name = labels_of-read message end start _ name.place.in_message refl name.place.read
 
   -- its octets by themselves
-  module _ (octets : List ℕ) (wire : octets ≡ name_wire (labels_of (name_at message end start 0 0))) where
+  module _ (octets : List ℕ)
+      (wire : octets ≡ name_wire (labels_of (name_at message end start 0 0))) where
     pub IsWholeName-copy : IsWholeName octets
     IsWholeName-copy = IsWholeName-wire octets _ wire AreLabels-name
 

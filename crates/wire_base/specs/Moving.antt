@@ -3,9 +3,10 @@ use Rattle.std.specs.Prelude.{◌≡◌, ℕ, ◌+◌, ◌≤◌, ◌<◌, List,
 use Rattle.std.specs.declared.vec.Vec.{Vec}
 use Rattle.wire_base.specs.Input.{Input}
 
--- The next `len` octets are taken: the parser then stands behind them, within its data. Refused exactly where fewer
--- remain; the parser then stays.
-pub record TakesOctets {X E : Type 0} (old new : Input) (len : ℕ) (result : Result X E) : Type 0 where
+-- The next `len` octets are taken: the parser then stands behind them, within its data. Refused
+-- exactly where fewer remain; the parser then stays.
+pub record TakesOctets {X E : Type 0} (old new : Input) (len : ℕ)
+    (result : Result X E) : Type 0 where
   pub ok : OnOk result (new ≡ record old { pos = old.pos + len })
   pub within : OnOk result (old.pos + len ≤ old.end)
   pub short : OnErr result (old.end < old.pos + len)
@@ -17,7 +18,8 @@ pub record TakesAll {X E : Type 0} (old new : Input) (result : Result X E) : Typ
   pub err : OnErr result (new ≡ old)
 
 -- Octets are appended. Where they are not, the target stays.
-pub record AppendsOctets {X E : Type 0} (old new octets : List ℕ) (result : Result X E) : Type 0 where
+pub record AppendsOctets {X E : Type 0} (old new octets : List ℕ)
+    (result : Result X E) : Type 0 where
   pub ok : OnOk result (new ≡ old ++ octets)
   pub err : OnErr result (new ≡ old)
 

@@ -34,7 +34,8 @@ IsAllowed (Pointer target) end pos octets pointers =
 -- a name begins with this part
 pub record BeginsName (part : Part) (message : List ℕ) (end pos octets pointers : ℕ) : Type 0 where
   pub allowed : IsAllowed part end pos octets pointers
-  pub name : name_at message end pos octets pointers ≡ name_from part message end pos octets pointers
+  pub name : name_at message end pos octets pointers
+      ≡ name_from part message end pos octets pointers
   pub pointed : is_pointed message end pos ≡ pointed_from part message end pos
 
 -- the answer is the part that stands at a place, or the fault
@@ -43,7 +44,8 @@ IsPartAt message end pos octets pointers (Ok part) = BeginsName part message end
 IsPartAt message end pos octets pointers (Err error) =
     IsFaultOf error (name_at message end pos octets pointers)
 
--- the labels that were read, where the name's own octets end, its length uncompressed, and whether a pointer was followed
+-- the labels that were read, where the name's own octets end, its length uncompressed, and whether
+-- a pointer was followed
 pub record SpansName (message : List ℕ) (end start : ℕ) (span : Span) : Type 0 where
   pub labels : List (List ℕ)
   pub read : name_at message end start 0 0 ≡ Ok (record { labels = labels; next = span.next })

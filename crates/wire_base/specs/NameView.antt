@@ -4,9 +4,10 @@ use Rattle.name_spec.specs.Octets.{Fault}
 use Rattle.name_spec.specs.Names.{NameRead, name_at, name_wire, is_pointed}
 use Rattle.wire_base.specs.Input.{Input}
 
--- What callers see of a `ParsedName`, and what a view of data with names has as its field: the labels from the first to
--- the last without the root, each in the case in which it stands in the message; and whether a pointer was followed to
--- read them, so whether the name was compressed on the wire (RFC 1035, section 4.1.4).
+-- What callers see of a `ParsedName`, and what a view of data with names has as its field: the
+-- labels from the first to the last without the root, each in the case in which it stands in the
+-- message; and whether a pointer was followed to read them, so whether the name was compressed on
+-- the wire (RFC 1035, section 4.1.4).
 pub record NameView : Type 0 where
   pub labels : List (List ℕ)
   pub is_compressed : Bool

@@ -10,8 +10,8 @@ pub record DataRead (Seen : Type 0) : Type 0 where
   pub value : Seen
   pub next : ℕ
 
--- The answer under a type number: nothing exactly where the type is another. Else the data that reading gives, as
--- `seen` shows it, or the fault. Memory for what was read may be wanting.
+-- The answer under a type number: nothing exactly where the type is another. Else the data that
+-- reading gives, as `seen` shows it, or the fault. Memory for what was read may be wanting.
 abbrev pub DataAnswers : {V Seen : Type 0}
     → (V → Seen) → Result (Option V) ParseError → Bool → Result (DataRead Seen) Fault → Type 0
 DataAnswers seen result false read = result ≡ Ok None

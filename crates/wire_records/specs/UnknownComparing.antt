@@ -8,11 +8,13 @@ use Rattle.wire_records.specs.UnknownView.{UnknownData}
 
 -- equal type numbers and equal octets
 abbrev pub is_same_unknown : UnknownData → UnknownData → Bool
-is_same_unknown = eq_of_both (on (λ found. found.rtype) ◌==◌) (on (λ found. found.octets) (pointwise ◌==◌))
+is_same_unknown =
+    eq_of_both (on (λ found. found.rtype) ◌==◌) (on (λ found. found.octets) (pointwise ◌==◌))
 
 -- by type number, then octet by octet, a front of the other's octets first
 abbrev pub unknown_cmp : UnknownData → UnknownData → Ordering
-unknown_cmp = then_cmp (on (λ found. found.rtype) nat_cmp) (on (λ found. found.octets) (slice_cmp nat_cmp))
+unknown_cmp = then_cmp (on (λ found. found.rtype) nat_cmp)
+    (on (λ found. found.octets) (slice_cmp nat_cmp))
 
 -- what is fed to a hasher
 abbrev pub unknown_hash_input : UnknownData → fed.HashWrites

@@ -5,7 +5,8 @@ use Rattle.std.proofs.lemmas.Grind.{common_steps}
 use Rattle.std.proofs.Common.{rules}
 use Rattle.devices.proofs.transfer.read_input.Goals as goal
 
-pub returns-in_err-extend_from_slice-clause-takes : goal.returns-in_err-extend_from_slice-clause-takes
+pub returns-in_err-extend_from_slice-clause-takes :
+    goal.returns-in_err-extend_from_slice-clause-takes
 returns-in_err-extend_from_slice-clause-takes g c = record {
   most = grind (arith, common_steps);
   front = (_, Consumes-trans _ _ _ _ _ c.loop-piece.invariant.taken c.in_ok-count.ensures.bytes.0);

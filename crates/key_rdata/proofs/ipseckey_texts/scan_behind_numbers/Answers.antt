@@ -14,4 +14,5 @@ returns-in_err-key-clause-unknown g c = λ is.
     not_unknown _ _ c.in_err-key.field-0.0 same c.in_err-key.ensures
 
 pub returns-then-lacks_key-clause-missing : goal.returns-then-lacks_key-clause-missing
-returns-then-lacks_key-clause-missing g c = λ is. takes_all _ _ _ c.in_ok-key.ensures ∙ ap length c.in_ok-gateway.ensures.scans.tokens
+returns-then-lacks_key-clause-missing g c =
+    λ is. takes_all _ _ _ c.in_ok-key.ensures ∙ ap length c.in_ok-gateway.ensures.scans.tokens

@@ -4,7 +4,9 @@ use Rattle.svcb_list.proofs.BuildLemmas.{pushed_protocols, pushed_are}
 use Rattle.svcb_list.proofs.alpn_builder.append_protocol.Goals as goal
 
 -- the length stands behind the old octets, and the protocol behind it
-written : (c : goal.After-unwrap-2) → c.extend_from_slice.new.self.items ≡ c.args.octets.now.items ++ length c.args.protocol.now ∷ c.args.protocol.now
+written : (c : goal.After-unwrap-2)
+    → c.extend_from_slice.new.self.items ≡ c.args.octets.now.items ++ length c.args.protocol.now
+    ∷ c.args.protocol.now
 written c = grind (arith, common_steps)
 
 pub returns-clause-ok : goal.returns-clause-ok

@@ -9,7 +9,9 @@ pub loop-group-preserved : goal.loop-group-preserved
 loop-group-preserved c =
     let words = c.loop-group.met.words in
     let group = c.in-Some.group in
-    let new : has_number words group ≡ false = grind (arith, nat_tests, c.insert.ensures.added, c.if-not-insert.false) in
+    let new : has_number words group ≡ false =
+        grind (arith, nat_tests, c.insert.ensures.added, c.if-not-insert.false) in
     c.loop-group.invariant
     ∙ ap (distinct_from words) c.in-Some.ensures.steps
-    ∙ met_now words c.insert.new.self.words group c.insert.ensures.numbers (numbers c.next.new.self) new
+    ∙ met_now words c.insert.new.self.words group c.insert.ensures.numbers
+    (numbers c.next.new.self) new

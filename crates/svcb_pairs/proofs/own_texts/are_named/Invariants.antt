@@ -5,4 +5,5 @@ use Rattle.svcb_spec.specs.PrintedParams.{has_some}
 use Rattle.svcb_pairs.proofs.own_texts.are_named.Given as goal
 
 abbrev pub invariant-loop-name : goal.invariant-loop-name
-invariant-loop-name l = list_all has_some (protocols l.fn.names) ≡ list_all has_some (protocols l.name-iterator)
+invariant-loop-name l =
+    list_all has_some (protocols l.fn.names) ≡ list_all has_some (protocols l.name-iterator)

@@ -7,6 +7,7 @@ use Rattle.svcb_params.proofs.laws.parameters_are_lists.Goals as goal
 
 pub returns : goal.returns
 returns c = λ octets pairs are. (
-  λ read. let known = wire-pairs_at octets pairs (small_octets octets are) read in (sym known.1 ∙ wire-pairs pairs known.0, known.0),
+  λ read. let known = wire-pairs_at octets pairs (small_octets octets are) read
+      in (sym known.1 ∙ wire-pairs pairs known.0, known.0),
   λ is. read_pairs-back octets pairs is.0 is.1,
 )

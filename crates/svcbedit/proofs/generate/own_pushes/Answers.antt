@@ -8,8 +8,10 @@ use Rattle.svcbedit.proofs.generate.own_pushes.Goals as goal
 pub loop-left-preserved : goal.loop-left-preserved
 loop-left-preserved c = record {
   within = omega (arith, c.loop-left.invariant.within);
-  pushes = pushes_below-more (map value_of c.loop-left.pushes.items) _ c.loop-left.left _ (omega (arith, c.loop-left-test.true)) c.in_ok-add_push.ensures c.loop-left.invariant.pushes;
+  pushes = pushes_below-more (map value_of c.loop-left.pushes.items) _ c.loop-left.left _
+      (omega (arith, c.loop-left-test.true)) c.in_ok-add_push.ensures c.loop-left.invariant.pushes;
 }
 
 pub returns : goal.returns
-returns c = pushes_below-none (map value_of c.loop-left.pushes.items) c.loop-left.left (pushes_below c.args.count) (omega arith) c.loop-left.invariant.pushes
+returns c = pushes_below-none (map value_of c.loop-left.pushes.items) c.loop-left.left
+    (pushes_below c.args.count) (omega arith) c.loop-left.invariant.pushes

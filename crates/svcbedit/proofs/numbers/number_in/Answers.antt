@@ -9,4 +9,6 @@ returns c =
     let first : c.starts_with.result ≡ (get_or c.args.text.now 0 0 == 43) =
     c.starts_with.ensures.byte (omega arith) (omega arith) (λ w o h. h) in
     let unsigned = eqb-false (get_or c.args.text.now 0 0) 43 (sym first ∙ c.if-starts_with.false) in
-    c.ok.ensures.value ∙ decimal_number-parsed c.args.text.now c.parse.result c.parse.ensures.value.0 unsigned (omega arith)
+    c.ok.ensures.value
+        ∙ decimal_number-parsed c.args.text.now c.parse.result c.parse.ensures.value.0 unsigned
+        (omega arith)

@@ -5,4 +5,6 @@ use Rattle.svcbedit.specs.Report.{reply_lines}
 use Rattle.svcbedit.proofs.report.push_replies.Given as goal
 
 abbrev pub invariant-loop-reply : goal.invariant-loop-reply
-invariant-loop-reply l = string_bytes l.report ≡ string_bytes l.initial.report ++ reply_lines (take l.reply-index l.replies)
+invariant-loop-reply l =
+    string_bytes l.report
+    ≡ string_bytes l.initial.report ++ reply_lines (take l.reply-index l.replies)

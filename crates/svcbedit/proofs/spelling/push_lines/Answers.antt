@@ -11,6 +11,7 @@ loop-line-preserved c =
     record {
       number = omega (arith, ap length steps, c.loop-line.invariant.number);
       pushes = c.loop-line.invariant.pushes
-          ∙ behind-pushed value_of c.loop-line.pushes.items _ c.in-Some-2.push c.loop-line.number line _ _ steps (ap (option_map value_of) (sym c.in-Some-2.is) ∙ c.in_ok-push.ensures)
+          ∙ behind-pushed value_of c.loop-line.pushes.items _ c.in-Some-2.push c.loop-line.number
+          line _ _ steps (ap (option_map value_of) (sym c.in-Some-2.is) ∙ c.in_ok-push.ensures)
           c.in_ok-push-in-Some-2.ensures.items;
     }

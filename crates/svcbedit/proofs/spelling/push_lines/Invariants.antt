@@ -8,5 +8,6 @@ use Rattle.svcbedit.proofs.spelling.push_lines.Given as goal
 abbrev pub invariant-loop-line : goal.invariant-loop-line
 invariant-loop-line l = record {
   number : l.number + length l.input ≤ 2 ^ 32 + 3;
-  pushes : pushes_of 3 l.initial.input ≡ behind (map value_of l.pushes.items) (pushes_of l.number l.input);
+  pushes : pushes_of 3 l.initial.input
+      ≡ behind (map value_of l.pushes.items) (pushes_of l.number l.input);
 }

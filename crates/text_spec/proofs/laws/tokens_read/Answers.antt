@@ -5,4 +5,5 @@ use Rattle.text_spec.proofs.Found.{tokens_found}
 use Rattle.text_spec.proofs.laws.tokens_read.Goals as goal
 
 pub returns : goal.returns
-returns c = λ text tokens. (has_tokens text tokens, λ read. subst (HasTokens text) read.1 (tokens_found text read.0))
+returns c = λ text tokens.
+    (has_tokens text tokens, λ read. subst (HasTokens text) read.1 (tokens_found text read.0))

@@ -6,4 +6,7 @@ use Rattle.digest_rdata.proofs.association_data.AssociationDataCanonicalOrd.cano
 pub returns : goal.returns
 returns g c =
     let F = g.F.AssociationFields in
-    c.cmp.ensures ∙ sym (data_order F.definition (data_of F.numbers c.args.self.now) (data_of F.numbers c.args.other.now) (rw (sym c.self.view_is) c.numbers_fit.ensures) (rw (sym c.other.view_is) c.numbers_fit-2.ensures))
+    c.cmp.ensures
+        ∙ sym (data_order F.definition (data_of F.numbers c.args.self.now)
+        (data_of F.numbers c.args.other.now) (rw (sym c.self.view_is) c.numbers_fit.ensures)
+        (rw (sym c.other.view_is) c.numbers_fit-2.ensures))

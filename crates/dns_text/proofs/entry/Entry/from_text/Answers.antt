@@ -9,33 +9,40 @@ use Rattle.dns_text.specs.Reading.{Takes}
 use Rattle.dns_text.proofs.entry.Entry.from_text.Goals as goal
 
 -- at the end of a text nothing is left that could have a fault
-read_whole : (lexeme : Option Lexeme) (before after : Result (List Lexeme) ScanError) (fault : Option ScanError) → is_some lexeme ≡ false → Takes (Ok lexeme) before after → fault_of before ≡ fault → fault ≡ None
+read_whole : (lexeme : Option Lexeme) (before after : Result (List Lexeme) ScanError)
+    (fault : Option ScanError) → is_some lexeme ≡ false → Takes (Ok lexeme) before after
+    → fault_of before ≡ fault → fault ≡ None
 read_whole None before after fault end taken same = sym same ∙ ap fault_of taken.0
 read_whole (Some lexeme) before after fault end taken same = absurd cc
 
 pub returns-in_err-next-clause-only : goal.returns-in_err-next-clause-only
 returns-in_err-next-clause-only c = λ tokens has.
-    let refused : text_fault c.args.text.now ≡ Some c.in_err-next.field-0.0 = sym c.loop.invariant ∙ ap fault_of c.in_err-next.ensures.taken in
+    let refused : text_fault c.args.text.now ≡ Some c.in_err-next.field-0.0 =
+        sym c.loop.invariant ∙ ap fault_of c.in_err-next.ensures.taken in
     let sound = (has_tokens c.args.text.now tokens has).0 in
     let both = sym sound ∙ refused in
     absurd cc
 
 pub returns-in_err-next-clause-fault : goal.returns-in_err-next-clause-fault
 returns-in_err-next-clause-fault c =
-    let refused : text_fault c.args.text.now ≡ Some c.in_err-next.field-0.0 = sym c.loop.invariant ∙ ap fault_of c.in_err-next.ensures.taken in
+    let refused : text_fault c.args.text.now ≡ Some c.in_err-next.field-0.0 =
+        sym c.loop.invariant ∙ ap fault_of c.in_err-next.ensures.taken in
     let fault = err_from_is_err_and c.from_residual.result c.from_residual.ensures.1 in
     rw (fault.1, fault.2) (fault_found c.args.text.now c.in_err-next.field-0.0 refused)
 
 pub returns-in_err-next-clause-refused : goal.returns-in_err-next-clause-refused
 returns-in_err-next-clause-refused c = λ fault has.
-    let refused : text_fault c.args.text.now ≡ Some c.in_err-next.field-0.0 = sym c.loop.invariant ∙ ap fault_of c.in_err-next.ensures.taken in
+    let refused : text_fault c.args.text.now ≡ Some c.in_err-next.field-0.0 =
+        sym c.loop.invariant ∙ ap fault_of c.in_err-next.ensures.taken in
     let is = err_from_is_err_and c.from_residual.result c.from_residual.ensures.1 in
     let same = sym refused ∙ has_fault c.args.text.now fault has in
     rw (is.1, is.2) cc
 
 pub returns-clause-tokens : goal.returns-clause-tokens
 returns-clause-tokens c =
-    let sound : text_fault c.args.text.now ≡ None = read_whole c.in_ok-next.field-0 _ _ (text_fault c.args.text.now) (sym c.if-is_some.ensures) c.in_ok-next.ensures.taken c.loop.invariant in
+    let sound : text_fault c.args.text.now ≡ None =
+        read_whole c.in_ok-next.field-0 _ _ (text_fault c.args.text.now)
+        (sym c.if-is_some.ensures) c.in_ok-next.ensures.taken c.loop.invariant in
     tokens_found c.args.text.now sound
 
 pub returns-clause-only : goal.returns-clause-only
@@ -43,6 +50,8 @@ returns-clause-only c = λ tokens has. (refl, (has_tokens c.args.text.now tokens
 
 pub returns-clause-refused : goal.returns-clause-refused
 returns-clause-refused c = λ fault has.
-    let sound : text_fault c.args.text.now ≡ None = read_whole c.in_ok-next.field-0 _ _ (text_fault c.args.text.now) (sym c.if-is_some.ensures) c.in_ok-next.ensures.taken c.loop.invariant in
+    let sound : text_fault c.args.text.now ≡ None =
+        read_whole c.in_ok-next.field-0 _ _ (text_fault c.args.text.now)
+        (sym c.if-is_some.ensures) c.in_ok-next.ensures.taken c.loop.invariant in
     let both = sym sound ∙ has_fault c.args.text.now fault has in
     absurd cc

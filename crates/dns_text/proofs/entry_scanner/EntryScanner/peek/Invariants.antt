@@ -4,7 +4,8 @@ use Rattle.dns_text.proofs.entry_scanner.EntryScanner.peek.Given as goal
 
 -- the symbols so far begin the next token
 abbrev pub invariant-loop-symbol : goal.invariant-loop-symbol
-invariant-loop-symbol l = token_groups (Some l.symbols.items) l.lexemes ≡ drop l.self.taken l.self.tokens
+invariant-loop-symbol l =
+    token_groups (Some l.symbols.items) l.lexemes ≡ drop l.self.taken l.self.tokens
 
 abbrev pub decreases-loop-symbol : goal.decreases-loop-symbol
 decreases-loop-symbol l = length l.lexemes

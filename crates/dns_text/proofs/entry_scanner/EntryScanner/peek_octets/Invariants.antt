@@ -6,7 +6,8 @@ use Rattle.dns_text.proofs.entry_scanner.EntryScanner.peek_octets.Given as goal
 
 -- the octets so far are those of symbols that begin the next token
 abbrev pub invariant-loop-symbol : goal.invariant-loop-symbol
-invariant-loop-symbol l = (token : List Symbol) × (l.octets.items ≡ octets_of token) × (token_groups (Some token) l.lexemes ≡ drop l.self.taken l.self.tokens)
+invariant-loop-symbol l = (token : List Symbol) × (l.octets.items ≡ octets_of token)
+    × (token_groups (Some token) l.lexemes ≡ drop l.self.taken l.self.tokens)
 
 abbrev pub decreases-loop-symbol : goal.decreases-loop-symbol
 decreases-loop-symbol l = length l.lexemes

@@ -5,4 +5,5 @@ use Rattle.dns_text.proofs.entry_scanner.EntryScannerScanner.go_back.Given as go
 
 -- so many tokens are passed
 abbrev pub invariant-loop : goal.invariant-loop
-invariant-loop l = token_groups None l.lexemes ≡ drop l.counter (tokens_in l.self-inside.entry.text.now)
+invariant-loop l =
+    token_groups None l.lexemes ≡ drop l.counter (tokens_in l.self-inside.entry.text.now)

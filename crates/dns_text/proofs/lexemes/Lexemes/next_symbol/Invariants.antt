@@ -5,7 +5,8 @@ use Rattle.dns_text.proofs.lexemes.Lexemes.next_symbol.Given as goal
 
 abbrev pub invariant-loop-symbol : goal.invariant-loop-symbol
 invariant-loop-symbol l = record {
-  same : (token : List Symbol) → token_groups (Some token) l.self ≡ token_groups (Some token) l.fn.self;
+  same : (token : List Symbol)
+      → token_groups (Some token) l.self ≡ token_groups (Some token) l.fn.self;
   no_longer : length l.self ≤ length l.fn.self;
 }
 

@@ -11,4 +11,5 @@ invariant-loop-alloc g l =
     }
 
 abbrev pub decreases-loop-alloc : goal.decreases-loop-alloc
-decreases-loop-alloc g l = length (g.Self.Scanner.scan l.self).tokens - (g.Self.Scanner.scan l.self).taken
+decreases-loop-alloc g l =
+    length (g.Self.Scanner.scan l.self).tokens - (g.Self.Scanner.scan l.self).taken

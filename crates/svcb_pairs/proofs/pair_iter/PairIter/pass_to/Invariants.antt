@@ -6,7 +6,8 @@ use Rattle.svcb_pairs.proofs.pair_iter.PairIter.pass_to.Given as goal
 abbrev pub invariant-loop-passed : goal.invariant-loop-passed
 invariant-loop-passed l = record {
   found : holds_key (pairs_in l.self-inside.rest.slice.now) l.key ≡ holds_key l.fn.self l.key;
-  behind : (above : ℕ) → l.key < above → holds_key (pairs_in l.self-inside.rest.slice.now) above ≡ holds_key l.fn.self above;
+  behind : (above : ℕ) → l.key < above → holds_key (pairs_in l.self-inside.rest.slice.now) above
+      ≡ holds_key l.fn.self above;
 }
 
 abbrev pub decreases-loop-passed : goal.decreases-loop-passed

@@ -21,7 +21,8 @@ loop-pair-init g c = λ plain.
     record {
       text = text first;
       wrote = c.in_ok-write.ensures.writes plain (refl {a = true});
-      whole_is = first_then_others (text first) (map text others) ∙ ap (λ ps. join_with_byte 32 (map text ps)) (sym pairs_are);
+      whole_is = first_then_others (text first) (map text others)
+          ∙ ap (λ ps. join_with_byte 32 (map text ps)) (sym pairs_are);
     }
 
 pub loop-pair-preserved : goal.loop-pair-preserved
@@ -32,7 +33,8 @@ loop-pair-preserved g c = λ plain.
     let rest : List (List ℕ) = map text c.next-in-loop-pair.new.self in
     record {
       text = front.text ++ 32 ∷ pair;
-      wrote = has_written_append _ _ _ _ (32 ∷ pair) _ front.wrote (c.in_ok-write-2.ensures.writes front.wrote.plain (refl {a = true}));
+      wrote = has_written_append _ _ _ _ (32 ∷ pair) _ front.wrote
+          (c.in_ok-write-2.ensures.writes front.wrote.plain (refl {a = true}));
       whole_is =
           one_more front.text pair (spaces_and rest)
           ∙ ap (λ ps. front.text ++ spaces_and (map text ps)) (sym c.in-Some-pair.ensures.steps)

@@ -9,4 +9,5 @@ abbrev pub invariant-loop-pair : goal.invariant-loop-pair
 invariant-loop-pair g l =
     let pairs = pairs_in l.self.slice.now in
     IsPlainFormatter l.fn.f
-    → WritesFront g.W.Write.write_str_gives l.fn.f l.f (params_printed pairs) (spaces_and (map (pair_printed pairs) l.pair-iterator))
+    → WritesFront g.W.Write.write_str_gives l.fn.f l.f (params_printed pairs)
+    (spaces_and (map (pair_printed pairs) l.pair-iterator))

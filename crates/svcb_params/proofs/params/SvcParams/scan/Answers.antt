@@ -5,9 +5,11 @@ use Rattle.svcb_params.proofs.params.SvcParams.scan.Goals as goal
 pub returns-in_err-scan_params-clause-any_order : goal.returns-in_err-scan_params-clause-any_order
 returns-in_err-scan_params-clause-any_order g c =
     let scan = g.S.Scanner.scan in
-    scanned_in_any_order (scan c.args.scanner.now) (scan c.scan_params.new.scanner) c.from_residual.result (search rules)
+    scanned_in_any_order (scan c.args.scanner.now)
+        (scan c.scan_params.new.scanner) c.from_residual.result (search rules)
 
 pub returns-clause-any_order : goal.returns-clause-any_order
 returns-clause-any_order g c =
     let scan = g.S.Scanner.scan in
-    scanned_in_any_order (scan c.args.scanner.now) (scan c.scan_params.new.scanner) (Ok c.from_checked_octets.result) (search rules)
+    scanned_in_any_order (scan c.args.scanner.now) (scan c.scan_params.new.scanner)
+        (Ok c.from_checked_octets.result) (search rules)
