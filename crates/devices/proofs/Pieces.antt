@@ -10,6 +10,6 @@ use Rattle.std.proofs.lemmas.List.{take_rest}
 pub appends_next : (a b c : Option (List ℕ)) (bytes : List ℕ) (place count : ℕ)
     → Appends a b (take place bytes)
     → Appends b c (take count (take (length bytes - place) (drop place bytes)))
-        → Appends a c (take (place + count) bytes)
+    → Appends a c (take (place + count) bytes)
 appends_next a b c bytes place count before next =
     rw take-add (Appends-trans a b c _ _ before (rw take_rest at next))

@@ -73,8 +73,8 @@ pub fn read_input<S: Source>(alloc: Global, source: &mut S) -> Result<Vec<u8>, R
     Ok(input)
 }
 
-/// Writes `bytes`. It fails where a write does, and then the sink holds a front of them behind what
-/// it held, and no further write is made.
+/// Writes `bytes`. It fails where a write does, and then the sink holds a prefix of them behind what it held, and no
+/// further write is made.
 #[tactic(auto, using(crate::proofs::Pieces::appends_next))]
 pub fn write_all<K: Sink>(sink: &mut K, bytes: &[u8]) -> Result<(), Failed>
     ensures whole { OnOk result (Appends (K.held sink.old) (K.held sink.new) bytes.now) }

@@ -13,7 +13,7 @@ use Rattle.record_spec.proofs.OctetLists.{length-octets, equal, then_assoc, slic
 numbers_order : (fields : List Field) (xs ys last last' : List ℕ) → AreNumbers fields xs
     → AreNumbers fields ys
     → slice_cmp nat_cmp (numbers_wire fields xs ++ last) (numbers_wire fields ys ++ last')
-        ≡ ordering_then (slice_cmp nat_cmp xs ys) (slice_cmp nat_cmp last last')
+    ≡ ordering_then (slice_cmp nat_cmp xs ys) (slice_cmp nat_cmp last last')
 numbers_order [] [] [] last last' fit fit' = refl
 numbers_order [] [] (y ∷ ys) last last' fit fit' = absurd fit'
 numbers_order [] (x ∷ xs) ys last last' fit fit' = absurd fit
@@ -22,9 +22,9 @@ numbers_order (field ∷ fields) (x ∷ xs) [] last last' fit fit' = absurd fit'
 numbers_order (field ∷ fields) (x ∷ xs) (y ∷ ys) last last' fit fit' =
     let k = field.width in
     let long : length (bytes_high_first k x) ≡ length (bytes_high_first k y) =
-        length-octets k x ∙ sym (length-octets k y) in
+    length-octets k x ∙ sym (length-octets k y) in
     ap₂ (slice_cmp nat_cmp) (append_assoc (bytes_high_first k x) (numbers_wire fields xs) last)
-        (append_assoc (bytes_high_first k y) (numbers_wire fields ys) last')
+    (append_assoc (bytes_high_first k y) (numbers_wire fields ys) last')
     ∙ slice_cmp-append (bytes_high_first k x) (bytes_high_first k y)
     (numbers_wire fields xs ++ last) (numbers_wire fields ys ++ last') long
     ∙ ap₂ ordering_then (number_order k x y fit.0 fit'.0)
@@ -37,5 +37,5 @@ pub data_order : (row : Row) (x y : Data) → AreNumbers row.fields x.numbers
     → canonical_order row.rtype (data_wire row x) row.rtype (data_wire row y) ≡ fields_cmp x y
 data_order row x y fit fit' =
     ap (λ o. ordering_then o (slice_cmp nat_cmp (data_wire row x) (data_wire row y)))
-        (equal row.rtype row.rtype refl)
+    (equal row.rtype row.rtype refl)
     ∙ numbers_order row.fields x.numbers y.numbers x.last y.last fit fit'

@@ -33,7 +33,7 @@ split (field ∷ fields) f next tokens place =
     go_on number.outcome number.place
     (λ n after. numbers_then fields (λ numbers. next (f (n ∷ numbers))) tokens after)
     (λ n after. numbers_then fields (λ numbers tokens place. done (f (n ∷ numbers)) place) tokens
-        after)
+    after)
     (λ numbers after. next numbers tokens after)
     (λ n after. split fields (λ numbers. f (n ∷ numbers)) next tokens after)
 
@@ -67,10 +67,10 @@ behind [] f tokens place = omega arith
 behind (field ∷ fields) f tokens place =
     let number = number_below (256 ^ field.width) tokens place in
     behind_both place number.place number.outcome
-        (λ n after. numbers_then fields (λ numbers tokens place. done (f (n ∷ numbers)) place)
-        tokens after)
+    (λ n after. numbers_then fields (λ numbers tokens place. done (f (n ∷ numbers)) place)
+    tokens after)
     (number_behind (256 ^ field.width) tokens place)
-        (λ n. behind fields (λ numbers. f (n ∷ numbers)) tokens number.place)
+    (λ n. behind fields (λ numbers. f (n ∷ numbers)) tokens number.place)
 
 -- scanning numbers doesn't go back
 pub scan_numbers_behind : (row : Row) (tokens : List (List Symbol)) (place : ℕ)
@@ -89,7 +89,7 @@ depth_after-numbers [] numbers blocks = refl
 depth_after-numbers (field ∷ fields) [] blocks = refl
 depth_after-numbers (field ∷ fields) (n ∷ numbers) blocks =
     depth_after-append (number_with_comment n (field.comment n))
-        (numbers_items fields numbers) blocks blocks (one_more n (field.comment n) blocks)
+    (numbers_items fields numbers) blocks blocks (one_more n (field.comment n) blocks)
     ∙ depth_after-numbers fields numbers blocks
 
 -- and a token behind them none either

@@ -17,8 +17,8 @@ ghost use Rattle.digest_rdata.specs.FieldsView.{FieldsView, data_of};
 use crate::association_fields::AssociationFields;
 use crate::last_field::EncodedOctets;
 use crate::octets::octets_fit;
-use record_spec::Encoding;
 use dns_text::{Formatter, Scanner, ZonefileFmt};
+use record_spec::Encoding;
 use std::alloc::Global;
 use std::cmp::Ordering;
 use std::fmt;
@@ -116,7 +116,10 @@ impl<F: AssociationFields> AssociationData<F> {
 
     /// The same. Where memory is wanting, tokens may be taken.
     #[tactic(auto, using(crate::proofs::Parts::scan_parts))]
-    fn scan_parts<S: Scanner>(alloc: Global, scanner: &mut S) -> Result<AssociationData<F>, ScanError>
+    fn scan_parts<S: Scanner>(
+        alloc: Global,
+        scanner: &mut S,
+    ) -> Result<AssociationData<F>, ScanError>
         ensures { ScansPart (data_of F.numbers) (scan_data F.definition)
             (S.scan scanner.old) (S.scan scanner.new) result }
     {

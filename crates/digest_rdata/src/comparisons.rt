@@ -1,7 +1,7 @@
 //! How record data is compared.
 
-use crate::association_fields::AssociationFields;
 use crate::association_data::AssociationData;
+use crate::association_fields::AssociationFields;
 use std::cmp::Ordering;
 use std::hash::{Hash, Hasher};
 

@@ -4,9 +4,9 @@ ghost use Rattle.std.specs.Prelude.{Some};
 ghost use Rattle.text_spec.specs.Encodings.{base64_text};
 ghost use Rattle.record_spec.specs.Texts.{last_printed};
 
-use record_spec::Encoding;
 use base64::display::Base64Display;
 use base64::engine::general_purpose::STANDARD;
+use record_spec::Encoding;
 use std::fmt;
 use wire_records::Base16;
 

@@ -4,26 +4,26 @@
 //! Each type is [`AssociationData`] over its fixed fields, so all calls but constructors and readers stand once.
 #![tactic(auto)]
 
+mod association_data;
 mod association_fields;
 mod cdnskey;
 mod cds;
 mod comparisons;
-mod association_data;
-mod record_form;
 mod last_field;
 mod octets;
 mod openpgpkey;
+mod record_form;
 mod sshfp;
 mod tlsa;
 mod zonemd;
 
+pub use association_data::AssociationData;
 pub use association_fields::AssociationFields;
 pub use cdnskey::{Cdnskey, CdnskeyFields};
 pub use cds::{Cds, CdsFields};
-pub use association_data::AssociationData;
-pub use record_form::RecordForm;
 pub use last_field::EncodedOctets;
 pub use openpgpkey::{Openpgpkey, OpenpgpkeyFields};
+pub use record_form::RecordForm;
 pub use sshfp::{Sshfp, SshfpFields};
 pub use tlsa::{Tlsa, TlsaFields};
 pub use zonemd::{Zonemd, ZonemdFields};

@@ -5,11 +5,11 @@ ghost use Rattle.record_spec.specs.Rows.{openpgpkey};
 ghost use Rattle.record_spec.specs.Texts.{numbers_printed};
 ghost use Rattle.record_spec.specs.DocumentLaws.{document-openpgpkey};
 
-use crate::association_fields::AssociationFields;
 use crate::association_data::AssociationData;
+use crate::association_fields::AssociationFields;
 use crate::record_form::RecordForm;
-use record_spec::Encoding;
 use dns_text::{Formatter, Scanner};
+use record_spec::Encoding;
 use std::alloc::Global;
 use std::fmt;
 use text_spec::ScanError;

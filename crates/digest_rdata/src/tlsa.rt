@@ -7,13 +7,13 @@ ghost use Rattle.record_spec.specs.Texts.{numbers_printed};
 ghost use Rattle.record_spec.specs.DocumentLaws.{document-tlsa};
 ghost use Rattle.digest_rdata.specs.ComparingLaws.{equal_three, then_three};
 
-use crate::association_fields::AssociationFields;
 use crate::association_data::AssociationData;
-use crate::record_form::RecordForm;
+use crate::association_fields::AssociationFields;
 use crate::octets::split_u8;
-use record_spec::Encoding;
+use crate::record_form::RecordForm;
 use dns_text::{Formatter, Scanner};
 use key_registry::{TlsaCertificateUsage, TlsaMatchingType, TlsaSelector};
+use record_spec::Encoding;
 use std::alloc::Global;
 use std::fmt;
 use text_spec::ScanError;

@@ -20,9 +20,9 @@ length-with_front front (Err fault) = omega arith
 length-end_at : (place : Place) → length (found_in (end_at place)) ≡ 0
 length-end_at place =
     elim place.quoted as
-        (λ q. length {A = Lexeme}
-        (found_in {T = Lexeme}
-        (cond q (Err OpenQuote) (cond (place.depth == 0) (Ok []) (Err BadBracket)))) ≡ 0) [
+    (λ q. length {A = Lexeme}
+    (found_in {T = Lexeme}
+    (cond q (Err OpenQuote) (cond (place.depth == 0) (Ok []) (Err BadBracket)))) ≡ 0) [
       | true ↦ refl
       | false ↦ elim (place.depth == 0) as
           (λ b. length {A = Lexeme} (found_in {T = Lexeme} (cond b (Ok []) (Err BadBracket))) ≡ 0)
@@ -37,14 +37,16 @@ length-lexemes place skip [] = omega (arith, length-end_at place)
 length-lexemes place (suc skip) (c ∷ rest) = omega (arith, length-lexemes place skip rest)
 length-lexemes place zero (c ∷ rest) =
     let by_front =
-        ap (λ (r : Result (List Lexeme) ScanError). length (found_in r))
-        (lexemes_at-front place c rest) in
+    ap (λ (r : Result (List Lexeme) ScanError). length (found_in r))
+    (lexemes_at-front place c rest) in
     let most : length (found_in (after rest (step place c rest))) ≤ length rest + 1 =
     elim (step place c rest) as (λ r. length (found_in (after rest r)) ≤ length rest + 1) [
       | Err fault ↦ omega arith
-      | Ok front ↦ omega
-          (arith, length-with_front front.lexeme (lexemes_at front.place front.len rest),
-          length-lexemes front.place front.len rest)
+      | Ok front ↦ omega (
+        arith,
+        length-with_front front.lexeme (lexemes_at front.place front.len rest),
+        length-lexemes front.place front.len rest,
+      )
     ] in
     omega (arith, by_front, most)
 

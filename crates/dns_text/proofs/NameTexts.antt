@@ -32,17 +32,17 @@ parts_from (dot ∷ symbols) = dotted_parts symbols
 -- a label stands before its dot
 dotted_parts-first : (symbols : List Symbol)
     → dotted_parts symbols
-        ≡ octets_of (take (label_len symbols) symbols)
-        ∷ parts_from (drop (label_len symbols) symbols)
+    ≡ octets_of (take (label_len symbols) symbols)
+    ∷ parts_from (drop (label_len symbols) symbols)
 dotted_parts-first [] = refl
 dotted_parts-first (symbol ∷ symbols) =
     let all = symbol ∷ symbols in
     let further : (k : ℕ)
-        → onto_first symbol.octet (octets_of (take k symbols) ∷ parts_from (drop k symbols))
-        ≡ octets_of (take (k + 1) all) ∷ parts_from (drop (k + 1) all) =
+    → onto_first symbol.octet (octets_of (take k symbols) ∷ parts_from (drop k symbols))
+    ≡ octets_of (take (k + 1) all) ∷ parts_from (drop (k + 1) all) =
     λ k. ap (λ (n : ℕ). octets_of (take n all) ∷ parts_from (drop n all)) (sym (add-one k)) in
     elim (is_bare_octet 46 symbol) as
-        (λ b. cond b ([] ∷ dotted_parts symbols) (onto_first symbol.octet (dotted_parts symbols))
+    (λ b. cond b ([] ∷ dotted_parts symbols) (onto_first symbol.octet (dotted_parts symbols))
     ≡ octets_of (take (cond b 0 (label_len symbols + 1)) all)
     ∷ parts_from (drop (cond b 0 (label_len symbols + 1)) all)) [
       | true ↦ refl
@@ -53,13 +53,13 @@ dotted_parts-first (symbol ∷ symbols) =
 -- there are more parts than an empty one
 without_final_dot-more : (part : List ℕ) (symbol : Symbol) (symbols : List Symbol)
     → without_final_dot (part ∷ dotted_parts (symbol ∷ symbols))
-        ≡ part ∷ without_final_dot (dotted_parts (symbol ∷ symbols))
+    ≡ part ∷ without_final_dot (dotted_parts (symbol ∷ symbols))
 without_final_dot-more part symbol symbols =
     let first = octets_of (take (label_len symbols) symbols) in
     let others = parts_from (drop (label_len symbols) symbols) in
     elim (is_bare_octet 46 symbol) as
-        (λ b. without_final_dot
-        (part ∷ cond b ([] ∷ dotted_parts symbols) (onto_first symbol.octet (dotted_parts symbols)))
+    (λ b. without_final_dot
+    (part ∷ cond b ([] ∷ dotted_parts symbols) (onto_first symbol.octet (dotted_parts symbols)))
     ≡ part ∷ without_final_dot
     (cond b ([] ∷ dotted_parts symbols) (onto_first symbol.octet (dotted_parts symbols)))) [
       | true ↦ subst
@@ -86,8 +86,8 @@ labels_of-nonempty (symbol ∷ symbols) some = refl
 -- the labels of symbols are the first, and those of the symbols behind its dot
 pub labels_of-first : (symbols : List Symbol) → 0 < length symbols
     → spelled_labels symbols
-        ≡ octets_of (take (label_len symbols) symbols)
-        ∷ spelled_labels (drop (label_len symbols + 1) symbols)
+    ≡ octets_of (take (label_len symbols) symbols)
+    ∷ spelled_labels (drop (label_len symbols + 1) symbols)
 labels_of-first symbols some =
     labels_of-nonempty symbols some ∙ ap without_final_dot (dotted_parts-first symbols)
     ∙ without_final_dot-from _ (drop (label_len symbols) symbols)
@@ -99,7 +99,7 @@ pub label_len-within : (symbols : List Symbol) → label_len symbols ≤ length 
 label_len-within [] = omega arith
 label_len-within (symbol ∷ symbols) =
     elim (is_bare_octet 46 symbol) as
-        (λ b. cond b 0 (label_len symbols + 1) ≤ length (symbol ∷ symbols)) [
+    (λ b. cond b 0 (label_len symbols + 1) ≤ length (symbol ∷ symbols)) [
       | true ↦ omega arith
       | false ↦ omega (arith, label_len-within symbols)
     ]
@@ -116,10 +116,10 @@ are_labels-append n [] more are =
 are_labels-append n (label ∷ labels) more are =
     let n' = n + length label + 1 in
     let parts = and_parts (nat_lt 0 (length label) && nat_lt (length label) 64 && nat_le n' 254)
-        (are_labels n' labels) are in
+    (are_labels n' labels) are in
     let same : n' + length (lengths_and_labels labels)
-        ≡ n + length (lengths_and_labels (label ∷ labels)) =
-        omega (arith, length-append label (lengths_and_labels labels)) in
+    ≡ n + length (lengths_and_labels (label ∷ labels)) =
+    omega (arith, length-append label (lengths_and_labels labels)) in
     ap (λ (b : Bool). b && are_labels n' (labels ++ more)) parts.0
     ∙ are_labels-append n' labels more parts.1 ∙ ap (λ (k : ℕ). are_labels k more) same
 
@@ -142,9 +142,9 @@ AreLabels-true n [] are = tt
 AreLabels-true n (label ∷ labels) are =
     let n' = n + length label + 1 in
     let parts = and_parts (nat_lt 0 (length label) && nat_lt (length label) 64 && nat_le n' 254)
-        (are_labels n' labels) are in
+    (are_labels n' labels) are in
     let lengths = and_parts (nat_lt 0 (length label) && nat_lt (length label) 64)
-        (nat_le n' 254) parts.0 in
+    (nat_le n' 254) parts.0 in
     let both = and_parts (nat_lt 0 (length label)) (nat_lt (length label) 64) lengths.0 in
     let some : 0 < length label = ltb-true _ _ both.0 in
     let few : length label < 64 = ltb-true _ _ both.1 in
@@ -190,16 +190,16 @@ module _ (token left : List Symbol) (octets : List ℕ) (so_far : IsWritten toke
     (some : 0 < length left) where
   label_tested : are_labels 0 (spelled_labels token)
       ≡ are_labels (length octets)
-          (octets_of (take (label_len left) left) ∷ spelled_labels (drop (label_len left + 1) left))
+      (octets_of (take (label_len left) left) ∷ spelled_labels (drop (label_len left + 1) left))
   label_tested =
       ap (are_labels 0)
-          (so_far.all ∙ ap (λ (more : List (List ℕ)). so_far.labels ++ more)
-          (labels_of-first left some))
+      (so_far.all ∙ ap (λ (more : List (List ℕ)). so_far.labels ++ more)
+      (labels_of-first left some))
       ∙ are_labels-append 0 so_far.labels _ so_far.are
       ∙ ap (λ (k : ℕ). are_labels k
       (octets_of (take (label_len left) left) ∷ spelled_labels (drop (label_len left + 1) left)))
       (let same : 0 + length (lengths_and_labels so_far.labels)
-          ≡ length octets = omega (arith, ap (λ (o : List ℕ). length o) so_far.written) in same)
+      ≡ length octets = omega (arith, ap (λ (o : List ℕ). length o) so_far.written) in same)
 
   pub written-refused : (label_len left ≡ 0)
       ⊎ ((63 < label_len left) ⊎ (254 < length octets + label_len left + 1))
@@ -207,29 +207,32 @@ module _ (token left : List Symbol) (octets : List ℕ) (so_far : IsWritten toke
   written-refused bad =
       let long = length-label left in
       let is_bad : (length (octets_of (take (label_len left) left)) ≡ 0)
-          ⊎ ((63 < length (octets_of (take (label_len left) left)))
-          ⊎ (254 < length octets + length (octets_of (take (label_len left) left)) + 1)) =
-      elim bad [ inl none ↦ inl (omega arith) | inr (inl many) ↦ inr (inl (omega arith))
-          | inr (inr over) ↦ inr (inr (omega arith)) ] in
+      ⊎ ((63 < length (octets_of (take (label_len left) left)))
+      ⊎ (254 < length octets + length (octets_of (take (label_len left) left)) + 1)) =
+      elim bad [
+        | inl none ↦ inl (omega arith)
+        | inr (inl many) ↦ inr (inl (omega arith))
+        | inr (inr over) ↦ inr (inr (omega arith))
+      ] in
       let refused : are_labels 0 (spelled_labels token) ≡ false =
-          label_tested
-          ∙ are_labels-refused (length octets) (octets_of (take (label_len left) left))
-          (spelled_labels (drop (label_len left + 1) left)) is_bad in
+      label_tested
+      ∙ are_labels-refused (length octets) (octets_of (take (label_len left) left))
+      (spelled_labels (drop (label_len left + 1) left)) is_bad in
       ap (λ (b : Bool). ok_or (option_map name_wire (cond b (Some (spelled_labels token)) None))
-          BadName) refused
+      BadName) refused
 
   pub written-label : 0 < label_len left → label_len left < 64
       → length octets + label_len left + 1 ≤ 254
       → IsWritten token (drop (label_len left + 1) left)
-          (octets ++ label_len left ∷ octets_of (take (label_len left) left))
+      (octets ++ label_len left ∷ octets_of (take (label_len left) left))
   written-label some_octets few within =
       let label = octets_of (take (label_len left) left) in
       let long : length label ≡ label_len left = length-label left in
       let octets_so_far : 0 + length (lengths_and_labels so_far.labels) ≡ length octets =
-          omega (arith, ap (λ (o : List ℕ). length o) so_far.written) in
+      omega (arith, ap (λ (o : List ℕ). length o) so_far.written) in
       let one : are_labels (0 + length (lengths_and_labels so_far.labels)) (label ∷ []) ≡ true =
-          are_labels-one (0 + length (lengths_and_labels so_far.labels)) label (omega arith)
-          (omega arith) (omega arith) in
+      are_labels-one (0 + length (lengths_and_labels so_far.labels)) label (omega arith)
+      (omega arith) (omega arith) in
       record {
         labels = so_far.labels ++ label ∷ [];
         are = are_labels-append 0 so_far.labels (label ∷ []) so_far.are ∙ one;
@@ -251,8 +254,8 @@ pub written-end : (token left : List Symbol) (octets : List ℕ) → IsWritten t
     → length left ≡ 0 → wire_of token ≡ Ok (octets ++ 0 ∷ [])
 written-end token left octets so_far none =
     let all : spelled_labels token ≡ so_far.labels =
-        so_far.all ∙ ap (λ (more : List (List ℕ)). so_far.labels ++ more) (none_left left none)
-        ∙ append-nil so_far.labels in
+    so_far.all ∙ ap (λ (more : List (List ℕ)). so_far.labels ++ more) (none_left left none)
+    ∙ append-nil so_far.labels in
     ap (λ (labels : List (List ℕ)). ok_or (option_map name_wire (if_labels labels)) BadName) all
     ∙ ap (λ (b : Bool). ok_or (option_map name_wire (cond b (Some so_far.labels) None)) BadName)
     so_far.are
@@ -273,7 +276,7 @@ by_name-plain : (token : List Symbol) → IsPlain token
 by_name-plain token plain =
     let labels = without_final_dot (dotted_parts token) in
     ap (λ (b : Bool). ok_or (cond b (Some []) (cond (is_lone 64 token) None (if_labels labels)))
-        BadName) plain.no_root
+    BadName) plain.no_root
     ∙ ap (λ (b : Bool). ok_or (cond b None (if_labels labels)) BadName) plain.no_origin
     ∙ ap (λ (labels : List (List ℕ)). ok_or (if_labels labels) BadName)
     (sym (labels_of-nonempty token plain.some))
@@ -292,8 +295,11 @@ named_by : (token : List Symbol) (octets : List ℕ) (labels : List (List ℕ)) 
 named_by token octets labels false are by written = absurd cc
 named_by token octets labels true are by written =
     let same : name_wire labels ≡ octets = cc in
-    record { labels = labels; by_name = by;
-        name_in = ap name_in (sym same) ∙ name_in-name_wire labels (AreLabels-true 0 labels are) }
+    record {
+      labels = labels;
+      by_name = by;
+      name_in = ap name_in (sym same) ∙ name_in-name_wire labels (AreLabels-true 0 labels are);
+    }
 
 pub named : (token : List Symbol) (octets : List ℕ) → IsPlain token → wire_of token ≡ Ok octets
     → IsNamed token octets
@@ -318,7 +324,7 @@ not_refused token octets parse_errors.NoMemory is refused = refused
 
 unnamed_by : (labels : Option (List (List ℕ))) (fault : ScanError)
     → Answers {T = List ℕ} (λ octets. octets) (Err fault)
-        (ok_or (option_map name_wire labels) BadName)
+    (ok_or (option_map name_wire labels) BadName)
     → Answers {T = List (List ℕ)} (λ name. name) (Err fault) (ok_or labels BadName)
 unnamed_by labels NoMemory refused = tt
 unnamed_by None fault refused = let same : BadName ≡ fault = cc
@@ -327,10 +333,10 @@ unnamed_by (Some labels) fault refused = absurd cc
 
 pub unnamed : (token : List Symbol) (fault : ScanError) → IsPlain token
     → Answers {T = List ℕ} (λ octets. octets) (Err fault) (wire_of token)
-        → Answers {T = List (List ℕ)} (λ name. name) (Err fault) (by_name token)
+    → Answers {T = List (List ℕ)} (λ name. name) (Err fault) (by_name token)
 unnamed token fault plain refused =
     subst (λ (r : Result (List (List ℕ)) ScanError). Answers {T = List (List ℕ)} (λ name. name)
-        (Err fault) r) (sym (by_name-plain token plain))
+    (Err fault) r) (sym (by_name-plain token plain))
     (unnamed_by (if_labels (spelled_labels token)) fault refused)
 
 -- ---- a name's text is short
@@ -347,27 +353,42 @@ symbols-within (suc bound) (symbol ∷ symbols) few =
     let behind = drop (len + 1) all in
     let fewer : length behind ≤ length all - (len + 1) = omega (arith, length-drop (len + 1) all) in
     let rest : length behind ≤ length (lengths_and_labels (spelled_labels behind)) =
-        symbols-within bound behind (omega arith) in
+    symbols-within bound behind (omega arith) in
     let first : length (lengths_and_labels (spelled_labels all))
-        ≡ length (length label ∷ label ++ lengths_and_labels (spelled_labels behind)) =
+    ≡ length (length label ∷ label ++ lengths_and_labels (spelled_labels behind)) =
     ap (λ (labels : List (List ℕ)). length (lengths_and_labels labels))
-        (labels_of-first all (omega arith)) in
-    omega (arith, first, rest, length-append label (lengths_and_labels (spelled_labels behind)),
-        length-label all, length-drop (len + 1) all)
+    (labels_of-first all (omega arith)) in
+    omega (
+      arith,
+      first,
+      rest,
+      length-append label (lengths_and_labels (spelled_labels behind)),
+      length-label all,
+      length-drop (len + 1) all,
+    )
 
 labels-within : (labels : List (List ℕ)) → are_labels 0 labels ≡ true
     → length (lengths_and_labels labels) ≤ 254
 labels-within labels are =
     let whole = ap (λ (octets : List ℕ). length octets) (name_wire-labels labels) in
-    omega (arith, whole, length-append (lengths_and_labels labels)
-        (0 ∷ []), length-name_wire 0 labels (omega arith) (AreLabels-true 0 labels are))
+    omega (
+      arith,
+      whole,
+      length-append (lengths_and_labels labels)
+          (0 ∷ []),
+      length-name_wire 0 labels (omega arith) (AreLabels-true 0 labels are),
+    )
 
 long_labels : (token : List Symbol) → 254 < length token
     → are_labels 0 (spelled_labels token) ≡ false
 long_labels token long = elim (cases_Bool (are_labels 0 (spelled_labels token))) [
   | inl are ↦ absurd
-      (omega (arith, labels-within (spelled_labels token) are, symbols-within (length token) token
-      (omega arith)))
+      (omega (
+        arith,
+        labels-within (spelled_labels token) are,
+        symbols-within (length token) token
+            (omega arith),
+      ))
   | inr are ↦ are
 ]
 
@@ -376,5 +397,5 @@ pub by_name-long : (token : List Symbol) → IsPlain token → 254 < length toke
     → by_name token ≡ Err BadName
 by_name-long token plain long =
     by_name-plain token plain
-        ∙ ap (λ (b : Bool). ok_or (cond b (Some (spelled_labels token)) None) BadName)
-        (long_labels token long)
+    ∙ ap (λ (b : Bool). ok_or (cond b (Some (spelled_labels token)) None) BadName)
+    (long_labels token long)

@@ -13,9 +13,11 @@ pub shows : {X E : Type 0} (old : Sheet) (items : List Item) (new : Sheet) (resu
 shows old items new (Ok x) h =
     record { ok = h.ok; err = tt; kind = ap (λ (s : Sheet). s.kind) h.ok }
 shows old items new (Err e) h =
-    record { ok = tt;
-    err = subst (λ (s : Sheet). StopsWithin old items s) (sym h.err) (StopsWithin-start old items);
-    kind = ap (λ (s : Sheet). s.kind) h.err }
+    record {
+      ok = tt;
+      err = subst (λ (s : Sheet). StopsWithin old items s) (sym h.err) (StopsWithin-start old items);
+      kind = ap (λ (s : Sheet). s.kind) h.err;
+    }
 
 -- a part behind what is laid out
 pub shows_behind : {X E : Type 0} (old : Sheet) (first more : List Item) (mid new : Sheet)

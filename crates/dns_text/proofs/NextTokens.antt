@@ -25,8 +25,11 @@ is_next (y ∷ ys) zero x rest left = record { here = cc; behind = cc; more = om
 is_next (y ∷ ys) (suc n) x rest left =
     let next = is_next ys n x rest left in
     let counted : suc (n + 1) ≡ suc n + 1 = omega arith in
-    record { here = next.here; behind = next.behind ∙ ap (λ k. drop k (y ∷ ys)) counted;
-        more = omega (arith, next.more) }
+    record {
+      here = next.here;
+      behind = next.behind ∙ ap (λ k. drop k (y ∷ ys)) counted;
+      more = omega (arith, next.more);
+    }
 
 -- a place where a token begins is the beginning of one
 pub grouped-begins : (lexemes : List Lexeme) → BeginsToken lexemes
@@ -79,13 +82,19 @@ goes_on : (token : List Symbol) (lexemes : List Lexeme)
     → GoesOnTo token (token_groups (Some token) lexemes)
 goes_on token [] = record { more = []; others = []; is = ap (λ t. t ∷ []) (sym (append-nil token)) }
 goes_on token (Gap ∷ lexemes) =
-    record { more = []; others = token_groups None lexemes;
-    is = ap (λ t. t ∷ token_groups None lexemes) (sym (append-nil token)) }
+    record {
+      more = [];
+      others = token_groups None lexemes;
+      is = ap (λ t. t ∷ token_groups None lexemes) (sym (append-nil token));
+    }
 goes_on token (Quote ∷ lexemes) = goes_on token lexemes
 goes_on token (Octet symbol ∷ lexemes) =
     let on = goes_on (token ++ symbol ∷ []) lexemes in
-    record { more = symbol ∷ on.more; others = on.others;
-        is = on.is ∙ ap (λ t. t ∷ on.others) (append_assoc token (symbol ∷ []) on.more) }
+    record {
+      more = symbol ∷ on.more;
+      others = on.others;
+      is = on.is ∙ ap (λ t. t ∷ on.others) (append_assoc token (symbol ∷ []) on.more);
+    }
 
 -- ---- the marker
 
@@ -110,27 +119,27 @@ not_first symbol (next ∷ more) other = refl
 pub unmarked_first : (tokens : List (List Symbol)) (place : ℕ) (symbol : Symbol)
     (lexemes : List Lexeme)
     → token_groups (Some (symbol ∷ [])) lexemes ≡ drop place tokens
-        → (symbol.escaped && (symbol.octet == 35)) ≡ false → is_marked tokens place ≡ false
+    → (symbol.escaped && (symbol.octet == 35)) ≡ false → is_marked tokens place ≡ false
 unmarked_first tokens place symbol lexemes left other =
     let on = goes_on (symbol ∷ []) lexemes in
     marked_as tokens place (symbol ∷ on.more) on.others (sym left ∙ on.is)
-        ∙ not_first symbol on.more other
+    ∙ not_first symbol on.more other
 
 -- a second symbol follows
 pub unmarked_second : (tokens : List (List Symbol)) (place : ℕ) (symbol : Symbol)
     (second : Option Symbol) (old new : List Lexeme)
     → token_groups (Some (symbol ∷ [])) old ≡ drop place tokens → GoesOn second old new
-        → is_some second ≡ true → is_marked tokens place ≡ false
+    → is_some second ≡ true → is_marked tokens place ≡ false
 unmarked_second tokens place symbol None old new left goes there = absurd cc
 unmarked_second tokens place symbol (Some next) old new left goes there =
     let on = goes_on (symbol ∷ next ∷ []) new in
     marked_as tokens place (symbol ∷ next ∷ on.more) on.others
-        (sym left ∙ goes (symbol ∷ []) ∙ on.is)
+    (sym left ∙ goes (symbol ∷ []) ∙ on.is)
 
 -- no second symbol follows
 pub ends_alone : (tokens : List (List Symbol)) (place : ℕ) (symbol : Symbol)
     (second : Option Symbol) (old new : List Lexeme)
     → token_groups (Some (symbol ∷ [])) old ≡ drop place tokens → GoesOn second old new
-        → is_some second ≡ false → drop place tokens ≡ (symbol ∷ []) ∷ token_groups None new
+    → is_some second ≡ false → drop place tokens ≡ (symbol ∷ []) ∷ token_groups None new
 ends_alone tokens place symbol None old new left goes none = sym left ∙ goes (symbol ∷ [])
 ends_alone tokens place symbol (Some next) old new left goes none = absurd cc

@@ -35,13 +35,13 @@ taken_token place (Err fault) x is = absurd cc
 pub octets-next : (tokens : List (List Symbol)) (n : ℕ) (next octets : List ℕ)
     → (one any_octets tokens n).outcome ≡ Ok next
     → (octets ++ next) ++ flat_map octets_of (drop (n + 1) tokens)
-        ≡ octets ++ flat_map octets_of (drop n tokens)
+    ≡ octets ++ flat_map octets_of (drop n tokens)
 octets-next tokens n next octets is =
     let first = next-octets tokens n next
-        (taken_token n (next_token any_octets tokens n) next is).outcome in
+    (taken_token n (next_token any_octets tokens n) next is).outcome in
     append_assoc octets next _
-        ∙ ap (λ (left : List ℕ). octets ++ left)
-        (ap (λ (k : ℕ). next ++ flat_map octets_of (drop k tokens)) (add-one n) ∙ sym first)
+    ∙ ap (λ (left : List ℕ). octets ++ left)
+    (ap (λ (k : ℕ). next ++ flat_map octets_of (drop k tokens)) (add-one n) ∙ sym first)
 
 -- the octets of the tokens that were taken since `began`
 pub record AreJoined (began now : Scan) (octets : List ℕ) : Type 0 where
@@ -58,9 +58,9 @@ pub joined-next : (began before after : Scan) (octets next : List ℕ)
     → AreJoined began after (octets ++ next)
 joined-next began before after octets next joined left scanned =
     let taken : after.taken ≡ before.taken + 1 =
-        scanned.place
-        ∙ (taken_token before.taken (next_token any_octets before.tokens before.taken) next
-        scanned.answer).behind in
+    scanned.place
+    ∙ (taken_token before.taken (next_token any_octets before.tokens before.taken) next
+    scanned.answer).behind in
     let more : before.taken < length before.tokens = ltb-true _ _ left in
     record {
       tokens = scanned.tokens ∙ joined.tokens;
@@ -79,15 +79,15 @@ rest_end fault place count (Some x) = done x count
 rest_end-answer : {T V : Type 0} (view : T → V) (fault : ScanError) (place count : ℕ)
     (r : Option V) (outcome : Result T ScanError)
     → Answers view outcome (ok_or r fault)
-        → Answers view outcome (rest_end fault place count r).outcome
+    → Answers view outcome (rest_end fault place count r).outcome
 rest_end-answer view fault place count None outcome answer = answer
 rest_end-answer view fault place count (Some y) outcome answer = answer
 
 rest_end-place : {T V : Type 0} (view : T → V) (fault : ScanError) (place count : ℕ) (r : Option V)
     (outcome : Result T ScanError)
     → Answers view outcome (ok_or r fault)
-        → StandsAt outcome (rest_end fault place count r).place place
-        (cond (is_ok outcome) count place)
+    → StandsAt outcome (rest_end fault place count r).place place
+    (cond (is_ok outcome) count place)
 rest_end-place view fault place count None (Ok x) answer = absurd cc
 rest_end-place view fault place count (Some y) (Ok x) answer = refl
 rest_end-place view fault place count r (Err NoMemory) answer = refl
@@ -106,10 +106,10 @@ rest_scan view read fault old mid new text outcome joined answer after =
     let count = length old.tokens in
     let same : text ≡ whole = cc in
     let means : Answers view outcome (ok_or (read whole) fault) =
-        subst (λ (t : List ℕ). Answers view outcome (ok_or (read t) fault)) same answer in
+    subst (λ (t : List ℕ). Answers view outcome (ok_or (read t) fault)) same answer in
     let taken : new.taken ≡ cond (is_ok outcome) count old.taken =
-        ap (λ (s : Scan). s.taken) after
-        ∙ ap (λ (k : ℕ). cond (is_ok outcome) k old.taken) joined.place in
+    ap (λ (s : Scan). s.taken) after
+    ∙ ap (λ (k : ℕ). cond (is_ok outcome) k old.taken) joined.place in
     record {
       answer = rest_end-answer view fault old.taken count (read whole) outcome means;
       place = subst

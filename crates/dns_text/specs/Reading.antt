@@ -35,7 +35,7 @@ BeginsToken (lexeme ∷ lexemes) = Unit {0}
 abbrev pub GoesOn : Option Symbol → List Lexeme → List Lexeme → Type 0
 GoesOn (Some symbol) old new =
     (token : List Symbol)
-        → token_groups (Some token) old ≡ token_groups (Some (token ++ symbol ∷ [])) new
+    → token_groups (Some token) old ≡ token_groups (Some (token ++ symbol ∷ [])) new
 GoesOn None old new =
     (token : List Symbol) → token_groups (Some token) old ≡ token ∷ token_groups None new
 

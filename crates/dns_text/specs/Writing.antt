@@ -8,7 +8,7 @@ pub record Writes {X E : Type 0} (old : Sheet) (items : List Item) (new : Sheet)
   pub ok : OnOk result (new ≡ laid_out old items)
   pub err : OnErr result (new ≡ old)
 
--- The items are laid out behind what was. Where they are not all, a front of them is. The kind
+-- The items are laid out behind what was. Where they are not all, a prefix of them is. The kind
 -- stays.
 pub record Shows {X E : Type 0} (old : Sheet) (items : List Item) (new : Sheet)
     (result : Result X E) : Type 0 where

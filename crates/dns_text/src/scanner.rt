@@ -16,10 +16,10 @@ use wire_base::{Name, Octets};
 
 /// Takes the tokens of an entry one by one.
 ///
-/// A scanner says by `scan` what the entry's tokens are and how many of them are taken, and owes the five calls
-/// without a body here. All others come with the trait. A call that scans takes the next token, or all that are left;
-/// where it is refused, the scanner stays as it was. `EndOfEntry` comes exactly where a token is asked for and none
-/// is left, and `NoMemory` only for want of memory.
+/// A scanner says by `scan` what the entry's tokens are and how many of them are taken, and owes the five calls without
+/// a body here. All others come with the trait. A call that scans takes the next token, or all that are left; where it
+/// is refused, the scanner stays as it was. `EndOfEntry` comes exactly where a token is asked for and none is left, and
+/// `NoMemory` only when allocation fails.
 pub trait Scanner {
     /// The entry's tokens, and how many of them are taken.
     ghost scan: { Self → Scan };

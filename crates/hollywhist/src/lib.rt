@@ -2,7 +2,7 @@
 //! SSHFP, TLSA, CDS, CDNSKEY, OPENPGPKEY and ZONEMD. Octets of a message or the text of a zone file entry come in; typed
 //! data, octets, text and comparisons go out. Each call is proved to answer what its contract says.
 //!
-//! This crate hands on the public types and calls of the crates below it, under the paths that the Rust library
+//! This crate re-exports the public types and calls of the crates below it, under the paths that the Rust library
 //! `domain` has for them. A crate that lists this one lists those below it too, since contracts cite their definitions.
 //!
 //! To read the data of an HTTPS record where it stands in a message, and its port:

@@ -14,5 +14,12 @@ pub name_len : (message : List ℕ) (end pos : ℕ) (name : NameRead)
     → pos + length (name_wire name.labels) ≡ name.next
 name_len message end pos name read plain in_message in_data =
     let octets = ap length (name_wire-read message end pos 0 0 name in_message plain read) in
-    omega (arith, octets, some_octets name.labels, length-append (name_wire name.labels)
-        (drop name.next message), length-drop pos message, length-drop name.next message)
+    omega (
+      arith,
+      octets,
+      some_octets name.labels,
+      length-append (name_wire name.labels)
+          (drop name.next message),
+      length-drop pos message,
+      length-drop name.next message,
+    )

@@ -9,7 +9,7 @@ use Rattle.key_rdata.specs.OctetsComparing.{octets_cmp}
 -- Behind their types, gateways decide before the key. The algorithm stands between the two.
 behind_type : (g h : Gateway) (a b : ℕ) (xs ys : List ℕ) → IsGateway g → IsGateway h
     → slice_cmp nat_cmp (gateway_type g ∷ a ∷ gateway_wire g ++ xs)
-        (gateway_type h ∷ b ∷ gateway_wire h ++ ys)
+    (gateway_type h ∷ b ∷ gateway_wire h ++ ys)
     ≡ ordering_then (nat_cmp (gateway_type g) (gateway_type h))
     (ordering_then (nat_cmp a b) (ordering_then (octets_cmp g h) (slice_cmp nat_cmp xs ys)))
 behind_type NoGateway NoGateway a b xs ys is is' = refl
@@ -47,8 +47,8 @@ data_order x y is is' =
 -- the same as the code finds it
 pub data_order-steps : (x y : Ipseckey) (p t a g k pt pta ptag all : Ordering)
     → p ≡ nat_cmp x.precedence y.precedence
-        → t ≡ nat_cmp (gateway_type x.gateway) (gateway_type y.gateway)
-        → a ≡ nat_cmp x.algorithm y.algorithm
+    → t ≡ nat_cmp (gateway_type x.gateway) (gateway_type y.gateway)
+    → a ≡ nat_cmp x.algorithm y.algorithm
     → g ≡ octets_cmp x.gateway y.gateway → k ≡ slice_cmp nat_cmp x.key y.key
     → pt ≡ ordering_then p t → pta ≡ ordering_then pt a → ptag ≡ ordering_then pta g
     → all ≡ ordering_then ptag k

@@ -18,19 +18,19 @@ pub printed_pieces : (found : Ipseckey) (p t a : ℕ) (g : Gateway) (k : List �
     → p ≡ found.precedence → t ≡ gateway_type found.gateway → a ≡ found.algorithm
     → g ≡ found.gateway → k ≡ found.key
     → decimal p ++
-        (codes " " ++
-        (decimal t ++
-        (codes " " ++
-        (decimal a ++
-        (codes " " ++ (gateway_text g ++ (codes " " ++ last_printed Base64 true k)))))))
+    (codes " " ++
+    (decimal t ++
+    (codes " " ++
+    (decimal a ++
+    (codes " " ++ (gateway_text g ++ (codes " " ++ last_printed Base64 true k)))))))
     ≡ ipseckey_printed found
 printed_pieces found p t a g k p_is t_is a_is g_is k_is =
     (λ i. decimal (p_is i)
-        ++ (codes " "
-        ++ (decimal (t_is i)
-        ++ (codes " "
-        ++ (decimal (a_is i)
-        ++ (codes " "
-        ++ (gateway_text (g_is i) ++ (codes " " ++ last_printed Base64 true (k_is i)))))))))
+    ++ (codes " "
+    ++ (decimal (t_is i)
+    ++ (codes " "
+    ++ (decimal (a_is i)
+    ++ (codes " "
+    ++ (gateway_text (g_is i) ++ (codes " " ++ last_printed Base64 true (k_is i)))))))))
     ∙ regrouped (decimal found.precedence) (decimal (gateway_type found.gateway))
     (decimal found.algorithm) (gateway_text found.gateway) (last_printed Base64 true found.key)

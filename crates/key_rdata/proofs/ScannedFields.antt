@@ -55,12 +55,12 @@ pub not_missing : {P : Type 0} (old new : Scan) (fault : ScanError) → fault �
     → Scans {T = List ℕ} (λ octets. octets) rest_base64 old new (Err fault) → P
 not_missing old new fault is scans =
     let told = subst (λ f. Scans {T = List ℕ} (λ octets. octets) rest_base64 old new (Err f)) is
-        scans in
+    scans in
     has_no (read old) old.taken (length old.tokens) MissingKey (inl refl) told.answer
 
 pub not_unknown : {P : Type 0} (old new : Scan) (fault : ScanError) → fault ≡ UnknownGateway
     → Scans {T = List ℕ} (λ octets. octets) rest_base64 old new (Err fault) → P
 not_unknown old new fault is scans =
     let told = subst (λ f. Scans {T = List ℕ} (λ octets. octets) rest_base64 old new (Err f)) is
-        scans in
+    scans in
     has_no (read old) old.taken (length old.tokens) UnknownGateway (inr refl) told.answer

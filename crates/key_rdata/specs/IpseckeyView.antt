@@ -8,8 +8,12 @@ use Rattle.key_rdata.specs.GatewayView.{gateway_of, seen_gateway}
 -- the data of these fields
 abbrev pub ipseckey_of : ℕ → ℕ → IpseckeyGateway → List ℕ → spec.Ipseckey
 ipseckey_of precedence algorithm gateway key =
-    record { precedence = precedence; algorithm = algorithm; gateway = gateway_of gateway;
-        key = key }
+    record {
+      precedence = precedence;
+      algorithm = algorithm;
+      gateway = gateway_of gateway;
+      key = key;
+    }
 
 -- the data that is seen in a message
 abbrev pub seen_ipseckey : IpseckeyRef → spec.Ipseckey

@@ -11,5 +11,5 @@ scan_behind_numbers precedence type algorithm tokens place =
     scan_then (scan_gateway type tokens place) (λ gateway after_gateway.
     scan_then (rest_base64 tokens after_gateway) (λ key end.
     complete_ipseckey
-        (record { precedence = precedence; algorithm = algorithm; gateway = gateway; key = key })
-        tokens end))
+    (record { precedence = precedence; algorithm = algorithm; gateway = gateway; key = key })
+    tokens end))

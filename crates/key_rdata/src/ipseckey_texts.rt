@@ -12,9 +12,9 @@ ghost use Rattle.key_rdata.specs.LayoutParts.{fields_items, ipseckey_numbers_ite
 use crate::gateway::IpseckeyGateway;
 use crate::ipseckey::{Ipseckey, lacks_key};
 use digest_rdata::EncodedOctets;
-use record_spec::Encoding;
 use dns_text::{Formatter, Scanner, ZonefileFmt};
 use key_registry::{IpseckeyAlgorithm, IpseckeyGatewayType};
+use record_spec::Encoding;
 use std::alloc::Global;
 use std::fmt;
 use text_spec::ScanError;
@@ -124,7 +124,7 @@ impl ZonefileFmt for Ipseckey {
 }
 
 impl Ipseckey {
-    /// Lays out the fields. Where memory is wanting, a front of them may be laid out.
+    /// Lays out the fields. Where memory is wanting, a prefix of them may be laid out.
     fn lay_out_fields(&self, f: &mut Formatter) -> Result<(), NoMemory>
         ensures shows { Shows f.old (fields_items self.now) f.new result }
         ensures blocks { OnOk result (f.new.layout.blocks ≡ f.old.layout.blocks) }

@@ -28,13 +28,13 @@ whole_read (Some (y, c ∷ rest)) x e = absurd (none-some x (left_over y c rest 
 pub ipv4_spelled : (text octets : List ℕ) → ipv4_of text ≡ Some octets → IsDotted text octets
 ipv4_spelled text octets e =
     let (front, split, dotted) =
-        read_ipv4_sound text octets [] (whole_read (read_ipv4 text) octets e) in
+    read_ipv4_sound text octets [] (whole_read (read_ipv4 text) octets e) in
     subst (λ t. IsDotted t octets) (sym (split ∙ append-nil front)) dotted
 
 pub ipv4_read : (text octets : List ℕ) → IsDotted text octets → ipv4_of text ≡ Some octets
 ipv4_read text octets h =
     ap (λ t. whole_value (read_ipv4 t)) (sym (append-nil text))
-        ∙ ap whole_value (read_ipv4_complete text octets [] h (lit≤ tt))
+    ∙ ap whole_value (read_ipv4_complete text octets [] h (lit≤ tt))
 
 octet_fits : (octets : List ℕ) → AreOctets octets → (k : ℕ) → get_or octets k 0 < 2 ^ 8
 octet_fits [] h k = omega arith
@@ -100,4 +100,4 @@ pub ipv6_again : (octets : List ℕ) → length octets ≡ 16 → AreOctets octe
 ipv6_again octets sixteen fits =
     ipv6_read (ipv6_text octets) octets (segments_of octets)
     (IsColonHex-ipv6_text (segments_of octets) (segments_count 8 octets sixteen)
-        (segments_fit octets fits)) (octets_back 8 octets sixteen fits)
+    (segments_fit octets fits)) (octets_back 8 octets sixteen fits)

@@ -16,7 +16,7 @@ steps_left octets pointers = (254 - octets) + (255 - pointers)
 -- a step asks only where fewer steps are left
 pub name_step-alike : (f g : Reading) (message : List ℕ) (end pos octets pointers : ℕ)
     → ((pos' octets' pointers' : ℕ) → steps_left octets' pointers' < steps_left octets pointers
-        → f pos' octets' pointers' ≡ g pos' octets' pointers')
+    → f pos' octets' pointers' ≡ g pos' octets' pointers')
     → name_step f message end pos octets pointers ≡ name_step g message end pos octets pointers
 unfolding name_step
 name_step-alike f g message end pos octets pointers same = grind (arith, nat_tests, same)
@@ -29,14 +29,14 @@ unfolding name_within
 name_within-alike zero zero message end pos octets pointers in_n in_k = refl
 name_within-alike zero (suc k) message end pos octets pointers in_n in_k =
     name_step-alike _ _ message end pos octets pointers
-        (λ pos' octets' pointers' fewer. absurd (omega arith))
+    (λ pos' octets' pointers' fewer. absurd (omega arith))
 name_within-alike (suc n) zero message end pos octets pointers in_n in_k =
     name_step-alike _ _ message end pos octets pointers
-        (λ pos' octets' pointers' fewer. absurd (omega arith))
+    (λ pos' octets' pointers' fewer. absurd (omega arith))
 name_within-alike (suc n) (suc k) message end pos octets pointers in_n in_k =
     name_step-alike _ _ message end pos octets pointers
     (λ pos' octets' pointers' fewer. name_within-alike n k message end pos' octets' pointers'
-        (omega arith) (omega arith))
+    (omega arith) (omega arith))
 
 -- `name_at` is `name_step` of itself
 pub name_at-step : (message : List ℕ) (end pos octets pointers : ℕ)
@@ -48,7 +48,7 @@ name_at-step message end pos octets pointers =
     name_within-alike n (suc n) message end pos octets pointers (omega arith) (omega arith)
     ∙ name_step-alike _ _ message end pos octets pointers
     (λ pos' octets' pointers' fewer. name_within-alike n (steps_left octets' pointers') message end
-        pos' octets' pointers' (omega arith) (omega arith))
+    pos' octets' pointers' (omega arith) (omega arith))
 
 -- ---- `name_at` by what stands at the place
 
@@ -113,9 +113,17 @@ module _ (message : List ℕ) (end pos octets pointers : ℕ) where
   unfolding name_step
   name_at-pointer here high within back few = step_by _ (grind (arith, nat_tests))
 
-pub ruleset name_rules =
-    (name_at-end, name_at-root, name_at-short_label, name_at-long_label, name_at-label,
-    name_at-reserved, name_at-short_pointer, name_at-bad_pointer, name_at-pointer)
+pub ruleset name_rules = (
+  name_at-end,
+  name_at-root,
+  name_at-short_label,
+  name_at-long_label,
+  name_at-label,
+  name_at-reserved,
+  name_at-short_pointer,
+  name_at-bad_pointer,
+  name_at-pointer,
+)
 
 -- ---- the equation of `is_pointed`
 
@@ -138,7 +146,7 @@ pointed_within-alike (suc n) zero message end pos in_n in_k =
     pointed_step-alike _ _ message end pos (λ pos' fewer. absurd (omega arith))
 pointed_within-alike (suc n) (suc k) message end pos in_n in_k =
     pointed_step-alike _ _ message end pos
-        (λ pos' fewer. pointed_within-alike n k message end pos' (omega arith) (omega arith))
+    (λ pos' fewer. pointed_within-alike n k message end pos' (omega arith) (omega arith))
 
 -- `is_pointed` is `pointed_step` of itself
 pub is_pointed-step : (message : List ℕ) (end pos : ℕ)

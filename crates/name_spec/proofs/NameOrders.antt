@@ -33,10 +33,10 @@ back_same xs xs' ys ys' len same =
 lowered_wire-label : (octets : ℕ) (label : List ℕ) (labels : List (List ℕ))
     → AreLabels octets (label ∷ labels)
     → lowered_wire (label ∷ labels) ≡ length label ∷ map to_ascii_lowercase label
-        ++ lowered_wire labels
+    ++ lowered_wire labels
 lowered_wire-label octets label labels are =
     ap (λ (first : ℕ). first ∷ map to_ascii_lowercase (label ++ name_wire labels))
-        (lower-length (length label) are.1)
+    (lower-length (length label) are.1)
     ∙ ap (λ (rest : List ℕ). length label ∷ rest)
     (map-append to_ascii_lowercase label (name_wire labels))
 
@@ -55,28 +55,30 @@ lowered-same octets octets' (x ∷ xs) (y ∷ ys) are are' same =
     let wire' = lowered_wire-label octets' y ys are' in
     let long : length x ≡ length y = cc in
     let both : map to_ascii_lowercase x ++ lowered_wire xs
-        ≡ map to_ascii_lowercase y ++ lowered_wire ys = cc in
+    ≡ map to_ascii_lowercase y ++ lowered_wire ys = cc in
     let len : length (map to_ascii_lowercase x) ≡ length (map to_ascii_lowercase y) =
-        length-map x to_ascii_lowercase ∙ long ∙ sym (length-map y to_ascii_lowercase) in
+    length-map x to_ascii_lowercase ∙ long ∙ sym (length-map y to_ascii_lowercase) in
     let first = front_same (map to_ascii_lowercase x) (map to_ascii_lowercase y) (lowered_wire xs)
-        (lowered_wire ys) len both in
+    (lowered_wire ys) len both in
     let rest = lowered-same (octets + length x + 1) (octets' + length y + 1) xs ys are.3 are'.3
-        (back_same (map to_ascii_lowercase x) (map to_ascii_lowercase y) (lowered_wire xs)
-        (lowered_wire ys) len both) in
+    (back_same (map to_ascii_lowercase x) (map to_ascii_lowercase y) (lowered_wire xs)
+    (lowered_wire ys) len both) in
     cc
 
 -- so a test of the octets in lower case tells whether names are the same
 pub same_by_octets : (octets others : List ℕ) (xs ys : List (List ℕ)) (test : Bool)
     → octets ≡ name_wire xs → others ≡ name_wire ys → AreLabels 0 xs → AreLabels 0 ys
     → (IsTrue test ↔ (map to_ascii_lowercase octets ≡ map to_ascii_lowercase others))
-        → test ≡ is_same_name xs ys
+    → test ≡ is_same_name xs ys
 same_by_octets octets others xs ys test wire wire' are are' tells =
     let left = ap (map to_ascii_lowercase) wire in
     let right = ap (map to_ascii_lowercase) wire' in
-    one_answer test (is_same_name xs ys) tells
-    (λ is. left ∙ lowered_wire-same xs ys is
-        ∙ sym right, λ same. (same_lowered xs ys).1
-        (lowered-same 0 0 xs ys are are' (sym left ∙ same ∙ right)))
+    one_answer test (is_same_name xs ys) tells (
+      λ is. left ∙ lowered_wire-same xs ys is
+          ∙ sym right,
+      λ same. (same_lowered xs ys).1
+          (lowered-same 0 0 xs ys are are' (sym left ∙ same ∙ right)),
+    )
 
 -- ---- the order from the last label
 
@@ -105,7 +107,7 @@ slice_cmp-append (x ∷ xs) [] us vs len = absurd (omega arith)
 slice_cmp-append (x ∷ xs) (y ∷ ys) us vs len =
     let more : length xs ≡ length ys = omega arith in
     ap (ordering_then (label_cmp x y)) (slice_cmp-append xs ys us vs more)
-        ∙ sym (then_assoc (label_cmp x y) (slice_cmp label_cmp xs ys) (slice_cmp label_cmp us vs))
+    ∙ sym (then_assoc (label_cmp x y) (slice_cmp label_cmp xs ys) (slice_cmp label_cmp us vs))
 
 length-from_last : (labels : List (List ℕ)) → length (from_last labels) ≡ length labels
 length-from_last labels =
@@ -129,16 +131,16 @@ cmp_from_last xs ys order = ordering_then (slice_cmp label_cmp (from_last xs) (f
 pub cmp_from_last-pair : (all all' : List (List ℕ)) (x y : List ℕ) (xs ys : List (List ℕ))
     (order : Ordering) → all ≡ x ∷ xs → all' ≡ y ∷ ys → length xs ≡ length ys
     → cmp_from_last all all' order
-        ≡ cmp_from_last xs ys
-        (ordering_then (label_cmp (map to_ascii_lowercase x) (map to_ascii_lowercase y)) order)
+    ≡ cmp_from_last xs ys
+    (ordering_then (label_cmp (map to_ascii_lowercase x) (map to_ascii_lowercase y)) order)
 cmp_from_last-pair all all' x y xs ys order is is' len =
     let long : length (from_last xs) ≡ length (from_last ys) =
-        length-from_last xs ∙ len ∙ sym (length-from_last ys) in
+    length-from_last xs ∙ len ∙ sym (length-from_last ys) in
     let pair = label_cmp (map to_ascii_lowercase x) (map to_ascii_lowercase y) in
     let whole = slice_cmp-append (from_last xs) (from_last ys) (map to_ascii_lowercase x ∷ [])
-        (map to_ascii_lowercase y ∷ []) long in
+    (map to_ascii_lowercase y ∷ []) long in
     rw (is, is', from_last-label x xs, from_last-label y ys, whole, then_equal pair)
-        (then_assoc (slice_cmp label_cmp (from_last xs) (from_last ys)) pair order)
+    (then_assoc (slice_cmp label_cmp (from_last xs) (from_last ys)) pair order)
 
 -- where one side has no labels, the counts tell
 counts_tell : (us vs : List (List ℕ)) (count count' : ℕ) → length us ≡ count - count'
@@ -157,16 +159,22 @@ name_cmp-last xs ys =
     let n = length xs - length ys in
     let k = length ys - length xs in
     let long : length (from_last (drop n xs)) ≡ length (from_last (drop k ys)) =
-        omega (arith, length-from_last (drop n xs), length-from_last
-        (drop k ys), length-drop n xs, length-drop k ys) in
+    omega (
+      arith,
+      length-from_last (drop n xs),
+      length-from_last
+          (drop k ys),
+      length-drop n xs,
+      length-drop k ys,
+    ) in
     let more : length (from_last (take n xs)) ≡ n =
-        omega (arith, length-from_last (take n xs), length-take n xs) in
+    omega (arith, length-from_last (take n xs), length-take n xs) in
     let more' : length (from_last (take k ys)) ≡ k =
-        omega (arith, length-from_last (take k ys), length-take k ys) in
+    omega (arith, length-from_last (take k ys), length-take k ys) in
     let split : from_last xs ≡ from_last (drop n xs) ++ from_last (take n xs) =
-        ap from_last (sym (take-append-drop n xs)) ∙ from_last-append (take n xs) (drop n xs) in
+    ap from_last (sym (take-append-drop n xs)) ∙ from_last-append (take n xs) (drop n xs) in
     let split' : from_last ys ≡ from_last (drop k ys) ++ from_last (take k ys) =
-        ap from_last (sym (take-append-drop k ys)) ∙ from_last-append (take k ys) (drop k ys) in
+    ap from_last (sym (take-append-drop k ys)) ∙ from_last-append (take k ys) (drop k ys) in
     ap (λ (us : List (List ℕ)). slice_cmp label_cmp us (from_last ys)) split
     ∙ ap (slice_cmp label_cmp (from_last (drop n xs) ++ from_last (take n xs))) split'
     ∙ slice_cmp-append (from_last (drop n xs)) (from_last (drop k ys)) (from_last (take n xs))

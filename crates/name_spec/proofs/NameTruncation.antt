@@ -19,18 +19,18 @@ name_step-cut f g message end cut pos octets pointers within same enough =
 
 name_within-cut : (n : ℕ) (message : List ℕ) (end cut pos octets pointers : ℕ) → cut ≤ end
     → IsCut (name_within n message cut pos octets pointers)
-        (name_within n message end pos octets pointers)
+    (name_within n message end pos octets pointers)
 unfolding name_within
 name_within-cut zero message end cut pos octets pointers within =
     name_step-cut _ _ message end cut pos octets pointers within (λ _ _ _ _. refl)
 name_within-cut (suc n) message end cut pos octets pointers within =
     name_step-cut _ _ message end cut pos octets pointers within
-        (λ pos' octets' pointers'. name_within-cut n message end cut pos' octets' pointers' within)
+    (λ pos' octets' pointers'. name_within-cut n message end cut pos' octets' pointers' within)
 
 -- a name in data that was cut is the name in the whole, or octets are missing
 pub name_at-cut : (message : List ℕ) (end cut pos octets pointers : ℕ) → cut ≤ end
     → name_at message cut pos octets pointers ≢ Err Short
-        → name_at message cut pos octets pointers ≡ name_at message end pos octets pointers
+    → name_at message cut pos octets pointers ≡ name_at message end pos octets pointers
 unfolding name_at
 name_at-cut message end cut pos octets pointers within =
     name_within-cut ((254 - octets) + (255 - pointers)) message end cut pos octets pointers within

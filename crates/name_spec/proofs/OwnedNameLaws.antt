@@ -16,14 +16,14 @@ use Rattle.name_spec.proofs.NameLaws.{steps_left, name_at-end, name_at-root, nam
 with_label-ok : (label : List ℕ) (read : Result NameRead Fault) (name : NameRead)
     → with_label label read ≡ Ok name
     → (rest : NameRead) × (read ≡ Ok rest)
-        × (name ≡ record { labels = label ∷ rest.labels; next = rest.next })
+    × (name ≡ record { labels = label ∷ rest.labels; next = rest.next })
 with_label-ok label (Ok rest) name is = (rest, refl, cc)
 with_label-ok label (Err fault) name is = absurd cc
 
 by_pointer-ok : (next : ℕ) (read : Result NameRead Fault) (name : NameRead)
     → by_pointer next read ≡ Ok name
     → (pointed : NameRead) × (read ≡ Ok pointed)
-        × (name ≡ record { labels = pointed.labels; next = next })
+    × (name ≡ record { labels = pointed.labels; next = next })
 by_pointer-ok next (Ok pointed) name is = (pointed, refl, cc)
 by_pointer-ok next (Err fault) name is = absurd cc
 
@@ -49,8 +49,11 @@ module _ (message : List ℕ) (end pos octets pointers : ℕ) (name : NameRead) 
     pub rest_is : name_at message end (pos + 1 + octet_at message pos)
         (octets + octet_at message pos + 1) pointers ≡ Ok rest
     pub name_is : name
-        ≡ record { labels = slice_range message (pos + 1) (pos + 1 + octet_at message pos)
-        ∷ rest.labels; next = rest.next }
+        ≡ record {
+          labels = slice_range message (pos + 1) (pos + 1 + octet_at message pos)
+              ∷ rest.labels;
+          next = rest.next;
+        }
 
   -- a pointer, and the name at its place
   pub record PointerHere : Type 0 where
@@ -85,13 +88,21 @@ module _ (message : List ℕ) (end pos octets pointers : ℕ) (name : NameRead) 
             | inr not_many ↦
                 let few : octets + octet_at message pos + 1 ≤ 254 = omega arith in
                 let step = name_at-label message end pos octets pointers here some small within few
-                    in
+                in
                 let found = with_label-ok
-                    (slice_range message (pos + 1) (pos + 1 + octet_at message pos))
-                    (name_at message end (pos + 1 + octet_at message pos)
-                    (octets + octet_at message pos + 1) pointers) name (sym step ∙ read) in
-                record { rest = found.0; here = here; not_empty = some; in_range = small;
-                    within = within; octets_fit = few; rest_is = found.1; name_is = found.2 }
+                (slice_range message (pos + 1) (pos + 1 + octet_at message pos))
+                (name_at message end (pos + 1 + octet_at message pos)
+                (octets + octet_at message pos + 1) pointers) name (sym step ∙ read) in
+                record {
+                  rest = found.0;
+                  here = here;
+                  not_empty = some;
+                  in_range = small;
+                  within = within;
+                  octets_fit = few;
+                  rest_is = found.1;
+                  name_is = found.2;
+                }
           ]
     ]
 
@@ -116,11 +127,18 @@ module _ (message : List ℕ) (end pos octets pointers : ℕ) (name : NameRead) 
                     at_pointer within (inr (omega arith)) in cc)
                 | inl few ↦
                     let step = name_at-pointer message end pos octets pointers here at_pointer
-                        within back few in
+                    within back few in
                     let found = by_pointer-ok (pos + 2)
-                        (name_at message end target octets (pointers + 1)) name (sym step ∙ read) in
-                    record { target = target; pointed = found.0; here = here; high = high;
-                        pointers_fit = few; pointed_is = found.1; name_is = found.2 }
+                    (name_at message end target octets (pointers + 1)) name (sym step ∙ read) in
+                    record {
+                      target = target;
+                      pointed = found.0;
+                      here = here;
+                      high = high;
+                      pointers_fit = few;
+                      pointed_is = found.1;
+                      name_is = found.2;
+                    }
               ]
             ]
           ]
@@ -144,8 +162,12 @@ module _ (message : List ℕ) (end pos octets pointers : ℕ) (name : NameRead) 
 length-label : (message : List ℕ) (pos n : ℕ) → pos + 1 + n ≤ length message
     → length (slice_range message (pos + 1) (pos + 1 + n)) ≡ n
 length-label message pos n within =
-    omega (arith, length-take (pos + 1 + n - (pos + 1)) (drop (pos + 1) message), length-drop
-    (pos + 1) message)
+    omega (
+      arith,
+      length-take (pos + 1 + n - (pos + 1)) (drop (pos + 1) message),
+      length-drop
+          (pos + 1) message,
+    )
 
 -- a label of so many octets in front of labels
 AreLabels-label : (octets n : ℕ) (label : List ℕ) (labels : List (List ℕ)) → length label ≡ n
@@ -160,25 +182,25 @@ AreLabels-within : (n : ℕ) (message : List ℕ) (end pos octets pointers : ℕ
     → name_at message end pos octets pointers ≡ Ok name → AreLabels octets name.labels
 AreLabels-within zero message end pos octets pointers name in_n in_message read =
     elim (name_here message end pos octets pointers name read) [
-  | inl root ↦ rw root.name_is tt
-  | inr (inl label) ↦ absurd (omega (arith, label.octets_fit))
-  | inr (inr pointer) ↦ absurd (omega (arith, pointer.pointers_fit))
-]
+      | inl root ↦ rw root.name_is tt
+      | inr (inl label) ↦ absurd (omega (arith, label.octets_fit))
+      | inr (inr pointer) ↦ absurd (omega (arith, pointer.pointers_fit))
+    ]
 AreLabels-within (suc n) message end pos octets pointers name in_n in_message read =
     elim (name_here message end pos octets pointers name read) [
-  | inl root ↦ rw root.name_is tt
-  | inr (inl label) ↦
-      let len = length-label message pos (octet_at message pos) (omega (arith, label.within)) in
-      let rest = AreLabels-within n message end _ _ pointers label.rest
+      | inl root ↦ rw root.name_is tt
+      | inr (inl label) ↦
+          let len = length-label message pos (octet_at message pos) (omega (arith, label.within)) in
+          let rest = AreLabels-within n message end _ _ pointers label.rest
           (omega (arith, label.octets_fit)) in_message label.rest_is in
-      rw label.name_is
+          rw label.name_is
           (AreLabels-label octets (octet_at message pos) _ label.rest.labels len label.not_empty
           label.in_range label.octets_fit rest)
-  | inr (inr pointer) ↦
-      rw pointer.name_is
+      | inr (inr pointer) ↦
+          rw pointer.name_is
           (AreLabels-within n message end pointer.target octets (pointers + 1) pointer.pointed
           (omega (arith, pointer.pointers_fit)) in_message pointer.pointed_is)
-]
+    ]
 
 pub AreLabels-read : (message : List ℕ) (end pos octets pointers : ℕ) (name : NameRead)
     → end ≤ length message
@@ -191,7 +213,7 @@ AreLabels-read message end pos octets pointers name =
 -- a label's octets and those behind it
 label_octets : (message : List ℕ) (pos n : ℕ) → n ≡ octet_at message pos → pos < length message
     → drop pos message ≡ n ∷ slice_range message (pos + 1) (pos + 1 + n)
-        ++ drop (pos + 1 + n) message
+    ++ drop (pos + 1 + n) message
 label_octets message pos n is here =
     let split = take-append-drop n (drop (pos + 1) message) in
     let behind = drop-drop n (pos + 1) message in
@@ -225,32 +247,32 @@ root_wire message pos root here =
 name_wire-within : (n : ℕ) (message : List ℕ) (end pos octets pointers : ℕ) (name : NameRead)
     → steps_left octets pointers ≤ n → end ≤ length message
     → is_pointed message end pos ≡ false → name_at message end pos octets pointers ≡ Ok name
-        → drop pos message ≡ name_wire name.labels ++ drop name.next message
+    → drop pos message ≡ name_wire name.labels ++ drop name.next message
 name_wire-within zero message end pos octets pointers name in_n in_message plain read =
     elim (name_here message end pos octets pointers name read) [
-  | inl root ↦ rw root.name_is (root_wire message pos root.root (omega (arith, root.here)))
-  | inr (inl label) ↦ absurd (omega (arith, label.octets_fit))
-  | inr (inr pointer) ↦ absurd (omega (arith, pointer.pointers_fit))
-]
+      | inl root ↦ rw root.name_is (root_wire message pos root.root (omega (arith, root.here)))
+      | inr (inl label) ↦ absurd (omega (arith, label.octets_fit))
+      | inr (inr pointer) ↦ absurd (omega (arith, pointer.pointers_fit))
+    ]
 name_wire-within (suc n) message end pos octets pointers name in_n in_message plain read =
     elim (name_here message end pos octets pointers name read) [
-  | inl root ↦ rw root.name_is (root_wire message pos root.root (omega (arith, root.here)))
-  | inr (inl label) ↦
-      let on = sym (is_pointed-label message end pos label.here label.not_empty label.in_range)
+      | inl root ↦ rw root.name_is (root_wire message pos root.root (omega (arith, root.here)))
+      | inr (inl label) ↦
+          let on = sym (is_pointed-label message end pos label.here label.not_empty label.in_range)
           ∙ plain in
-      let behind = name_wire-within n message end _ _ pointers label.rest
+          let behind = name_wire-within n message end _ _ pointers label.rest
           (omega (arith, label.octets_fit)) in_message on label.rest_is in
-      rw label.name_is
+          rw label.name_is
           (label_wire message pos (octet_at message pos) label.rest.next label.rest.labels refl
           (omega (arith, label.within)) behind)
-  | inr (inr pointer) ↦ absurd
-      (let pointed = is_pointed-pointer message end pos pointer.here pointer.high in cc)
-]
+      | inr (inr pointer) ↦ absurd
+          (let pointed = is_pointed-pointer message end pos pointer.here pointer.high in cc)
+    ]
 
 pub name_wire-read : (message : List ℕ) (end pos octets pointers : ℕ) (name : NameRead)
     → end ≤ length message
     → is_pointed message end pos ≡ false → name_at message end pos octets pointers ≡ Ok name
-        → drop pos message ≡ name_wire name.labels ++ drop name.next message
+    → drop pos message ≡ name_wire name.labels ++ drop name.next message
 name_wire-read message end pos octets pointers name =
     name_wire-within (steps_left octets pointers) message end pos octets pointers name (omega arith)
 
@@ -262,7 +284,7 @@ octet_here : (message : List ℕ) (pos first : ℕ) (others : List ℕ)
 octet_here message pos first others is =
     let at : pos + 0 ≡ pos = omega arith in
     ap (λ k. get_or message k 0) (sym at) ∙ sym (get_or-drop pos message 0 0)
-        ∙ ap (λ rest. get_or rest 0 0) is
+    ∙ ap (λ rest. get_or rest 0 0) is
 
 octets_behind : (message : List ℕ) (pos first : ℕ) (others : List ℕ)
     → drop pos message ≡ first ∷ others → drop (pos + 1) message ≡ others
@@ -275,7 +297,7 @@ module _ (message : List ℕ) (pos : ℕ) (label others : List ℕ)
   label_read =
       let len : length label ≡ pos + 1 + length label - (pos + 1) = omega arith in
       ap (take (pos + 1 + length label - (pos + 1))) (octets_behind message pos _ _ is)
-          ∙ take_at label others _ len
+      ∙ take_at label others _ len
 
   others_read : drop (pos + 1 + length label) message ≡ others
   others_read = sym (drop-drop (length label) (pos + 1) message)
@@ -296,36 +318,38 @@ in_message message pos first others is = omega (arith, length-drop pos message, 
 label_at : (message : List ℕ) (end pos octets pointers n : ℕ) → octet_at message pos ≡ n
     → pos < end → 0 < n → n < 64 → pos + 1 + n ≤ end → octets + n + 1 ≤ 254
     → name_at message end pos octets pointers
-        ≡ with_label (slice_range message (pos + 1) (pos + 1 + n))
-        (name_at message end (pos + 1 + n) (octets + n + 1) pointers)
+    ≡ with_label (slice_range message (pos + 1) (pos + 1 + n))
+    (name_at message end (pos + 1 + n) (octets + n + 1) pointers)
 label_at message end pos octets pointers n is here some small within few =
     subst (λ (k : ℕ). name_at message end pos octets pointers
-        ≡ with_label (slice_range message (pos + 1) (pos + 1 + k))
-        (name_at message end (pos + 1 + k) (octets + k + 1) pointers)) is
+    ≡ with_label (slice_range message (pos + 1) (pos + 1 + k))
+    (name_at message end (pos + 1 + k) (octets + k + 1) pointers)) is
     (name_at-label message end pos octets pointers here (omega arith) (omega arith) (omega arith)
-        (omega arith))
+    (omega arith))
 
 -- a name's octets are read as that name
 pub name_at-wire : (labels : List (List ℕ)) (message behind : List ℕ) (end pos octets pointers : ℕ)
     → AreLabels octets labels → pos + length (name_wire labels) ≤ end
     → drop pos message ≡ name_wire labels ++ behind
-        → name_at message end pos octets pointers
-        ≡ Ok (record { labels = labels; next = pos + length (name_wire labels) })
+    → name_at message end pos octets pointers
+    ≡ Ok (record { labels = labels; next = pos + length (name_wire labels) })
 name_at-wire [] message behind end pos octets pointers are within is =
     name_at-root message end pos octets pointers (omega arith) (octet_here message pos 0 behind is)
 name_at-wire (label ∷ labels) message behind end pos octets pointers are within is =
     let here = wire_here message pos label labels behind is in
     let long = length-append label (name_wire labels) in
     let rest = name_at-wire labels message behind end (pos + 1 + length label)
-        (octets + length label + 1) pointers are.3 (omega arith)
-        (others_read message pos label (name_wire labels ++ behind) here) in
+    (octets + length label + 1) pointers are.3 (omega arith)
+    (others_read message pos label (name_wire labels ++ behind) here) in
     let next : pos + 1 + length label + length (name_wire labels)
-        ≡ pos + length (name_wire (label ∷ labels)) = omega arith in
+    ≡ pos + length (name_wire (label ∷ labels)) = omega arith in
     label_at message end pos octets pointers (length label) (octet_here message pos _ _ here)
-        (omega arith) are.0 are.1 (omega arith) are.2
+    (omega arith) are.0 are.1 (omega arith) are.2
     ∙ ap (with_label (slice_range message (pos + 1) (pos + 1 + length label))) rest
     ∙ ap (λ (first : List ℕ). Ok
-    (record { labels = first ∷ labels; next = pos + 1 + length label + length (name_wire labels)
+    (record {
+      labels = first ∷ labels;
+      next = pos + 1 + length label + length (name_wire labels);
     })) (label_read message pos label (name_wire labels ++ behind) here)
     ∙ ap (λ (k : ℕ). Ok (record { labels = label ∷ labels; next = k })) next
 
@@ -340,8 +364,8 @@ is_pointed-wire (label ∷ labels) message behind end pos octets are within is =
     let long = length-append label (name_wire labels) in
     let first = octet_here message pos _ _ here in
     let rest = is_pointed-wire labels message behind end (pos + 1 + length label)
-        (octets + length label + 1) are.3 (omega arith)
-        (others_read message pos label (name_wire labels ++ behind) here) in
+    (octets + length label + 1) are.3 (omega arith)
+    (others_read message pos label (name_wire labels ++ behind) here) in
     is_pointed-label message end pos (omega arith) (omega (arith, are.0)) (omega (arith, are.1))
     ∙ ap (λ n. is_pointed message end (pos + 1 + n)) first ∙ rest
 
@@ -360,7 +384,7 @@ labels_to-ok end (Ok name) labels is = elim (cases_eq name.next end) [
       let found : labels_to end name ≡ Ok name.labels = grind (arith, nat_tests) in
       let same : name.labels ≡ labels = cc in
       ap₂ (λ (labels : List (List ℕ)) (next : ℕ). Ok (record { labels = labels; next = next }))
-          same whole
+      same whole
   | inr over ↦ absurd (let refused : labels_to end name ≡ Err Form = grind (arith, nat_tests) in cc)
 ]
 labels_to-ok end (Err fault) labels is = absurd cc
@@ -380,9 +404,10 @@ pub name_in-read : (octets : List ℕ) (labels : List (List ℕ)) → name_in oc
     → IsNameIn octets labels
 name_in-read octets labels is = elim (cases_Bool (is_pointed octets (length octets) 0)) [
   | inl pointed ↦ absurd (let refused = name_in-pointed octets pointed in cc)
-  | inr plain ↦ record
-      { read = labels_to-ok (length octets) _ labels (sym (name_in-plain octets plain) ∙ is);
-      plain = plain }
+  | inr plain ↦ record {
+    read = labels_to-ok (length octets) _ labels (sym (name_in-plain octets plain) ∙ is);
+    plain = plain;
+  }
 ]
 
 -- its labels are labels
@@ -398,7 +423,7 @@ name_in-wire octets labels is =
     let name = name_in-read octets labels is in
     let whole = name_wire-read octets (length octets) 0 0 0 _ (omega arith) name.plain name.read in
     sym (whole ∙ ap (λ rest. name_wire labels ++ rest)
-        (drop_all (length octets) octets (omega arith)) ∙ append-nil (name_wire labels))
+    (drop_all (length octets) octets (omega arith)) ∙ append-nil (name_wire labels))
 
 -- a name's octets are wholly that name
 pub name_in-name_wire : (labels : List (List ℕ)) → AreLabels 0 labels
@@ -406,26 +431,26 @@ pub name_in-name_wire : (labels : List (List ℕ)) → AreLabels 0 labels
 name_in-name_wire labels are =
     let end = length (name_wire labels) in
     let here : drop 0 (name_wire labels) ≡ name_wire labels ++ [] =
-        sym (append-nil (name_wire labels)) in
+    sym (append-nil (name_wire labels)) in
     let next : 0 + end ≡ end = omega arith in
     let read = name_at-wire labels (name_wire labels) [] end 0 0 0 are (omega arith) here
-        ∙ ap (λ (k : ℕ). Ok (record { labels = labels; next = k })) next in
+    ∙ ap (λ (k : ℕ). Ok (record { labels = labels; next = k })) next in
     let plain = is_pointed-wire labels (name_wire labels) [] end 0 0 are (omega arith) here in
     let whole : labels_to end (record { labels = labels; next = end }) ≡ Ok labels =
-        grind (arith, nat_tests) in
+    grind (arith, nat_tests) in
     name_in-plain (name_wire labels) plain
-        ∙ ap (λ (read : Result NameRead Fault). read >>= labels_to end) read ∙ whole
+    ∙ ap (λ (read : Result NameRead Fault). read >>= labels_to end) read ∙ whole
 
 -- a name's octets behind a front are read as that name
 pub name_at-name_wire : (front behind : List ℕ) (labels : List (List ℕ)) (end octets pointers : ℕ)
     → AreLabels octets labels → length front + length (name_wire labels) ≤ end
     → name_at (front ++ name_wire labels ++ behind) end (length front) octets pointers
-        ≡ Ok (record { labels = labels; next = length front + length (name_wire labels) })
+    ≡ Ok (record { labels = labels; next = length front + length (name_wire labels) })
 name_at-name_wire front behind labels end octets pointers are within =
     name_at-wire labels (front ++ name_wire labels ++ behind) behind end
-        (length front) octets pointers are within
+    (length front) octets pointers are within
     (ap (drop (length front)) (append_assoc front (name_wire labels) behind)
-        ∙ drop_at front (name_wire labels ++ behind) (length front) refl)
+    ∙ drop_at front (name_wire labels ++ behind) (length front) refl)
 
 -- ---- lengths
 

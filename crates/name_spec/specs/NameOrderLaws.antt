@@ -27,10 +27,10 @@ pub same_name_ties : (xs ys : List (List ℕ)) → is_same_name xs ys ≡ eq_by_
 same_name_ties xs ys =
     let turned = labels_decide (from_last xs) (from_last ys) in
     let back : from_last xs ≡ from_last ys → in_lower_case xs ≡ in_lower_case ys =
-        λ same. sym (reverse-reverse (in_lower_case xs)) ∙ ap reverse same
-        ∙ reverse-reverse (in_lower_case ys) in
+    λ same. sym (reverse-reverse (in_lower_case xs)) ∙ ap reverse same
+    ∙ reverse-reverse (in_lower_case ys) in
     one_answer _ _ (same_lowered xs ys)
-        (λ is. back (turned.0 is), λ same. turned.1 (ap reverse same))
+    (λ is. back (turned.0 is), λ same. turned.1 (ap reverse same))
     ∙ lists_ties (slice_cmp nat_cmp) texts_ties (from_last xs) (from_last ys)
 
 -- ---- octets in lower case
@@ -46,20 +46,20 @@ wire_of_lowered-lowered : (labels : List (List ℕ))
 wire_of_lowered-lowered [] = refl
 wire_of_lowered-lowered (label ∷ labels) =
     let len : to_ascii_lowercase (length label)
-        ≡ to_ascii_lowercase (length (map to_ascii_lowercase label)) =
-        ap to_ascii_lowercase (sym (length-map label to_ascii_lowercase)) in
+    ≡ to_ascii_lowercase (length (map to_ascii_lowercase label)) =
+    ap to_ascii_lowercase (sym (length-map label to_ascii_lowercase)) in
     ap (λ (first : ℕ). first ∷ map to_ascii_lowercase (label ++ name_wire labels)) len
     ∙ ap (λ (rest : List ℕ). to_ascii_lowercase (length (map to_ascii_lowercase label)) ∷ rest)
     (map-append to_ascii_lowercase label (name_wire labels)
-        ∙ ap (λ (rest : List ℕ). map to_ascii_lowercase label ++ rest)
-        (wire_of_lowered-lowered labels))
+    ∙ ap (λ (rest : List ℕ). map to_ascii_lowercase label ++ rest)
+    (wire_of_lowered-lowered labels))
 
 -- the same name has the same octets in lower case
 pub lowered_wire-same : (xs ys : List (List ℕ)) → is_same_name xs ys ≡ true
     → lowered_wire xs ≡ lowered_wire ys
 lowered_wire-same xs ys same =
     wire_of_lowered-lowered xs ∙ ap wire_of_lowered ((same_lowered xs ys).0 same)
-        ∙ sym (wire_of_lowered-lowered ys)
+    ∙ sym (wire_of_lowered-lowered ys)
 
 -- so what is fed of these octets is alike for the same name
 pub fed-same : (feed : List ℕ → HashWrites) (xs ys : List (List ℕ)) → is_same_name xs ys ≡ true

@@ -20,7 +20,7 @@ turned xs ys = sym ((lists_total nat_cmp_total).antisymm ys xs)
 -- a part that is longer than all others decides
 pub longer : (part octets more : List ℕ) → length octets < length part
     → slice_cmp nat_cmp (part ++ more) octets
-        ≡ ordering_then (slice_cmp nat_cmp part octets) (slice_cmp nat_cmp more [])
+    ≡ ordering_then (slice_cmp nat_cmp part octets) (slice_cmp nat_cmp more [])
 longer [] octets more h = absurd (omega arith)
 longer (x ∷ part) [] more h = refl
 longer (x ∷ part) (y ∷ octets) more h =
@@ -37,12 +37,12 @@ fitting part octets more h =
     let rest = drop (length part) octets in
     let long : length part ≡ length front = sym (length-take-le (length part) octets h) in
     ap (slice_cmp nat_cmp (part ++ more)) (sym (take-append-drop (length part) octets))
-        ∙ slice_cmp-append part front more rest long
+    ∙ slice_cmp-append part front more rest long
 
 -- what stands behind a part is compared behind it
 pub behind : (part octets rest more : List ℕ) (order after whole : Ordering)
     → ComparesFront part octets order rest
     → after ≡ slice_cmp nat_cmp more rest → whole ≡ ordering_then order after
-        → whole ≡ slice_cmp nat_cmp (part ++ more) octets
+    → whole ≡ slice_cmp nat_cmp (part ++ more) octets
 behind part octets rest more order after whole front is same =
     same ∙ ap (ordering_then order) is ∙ sym (front more)

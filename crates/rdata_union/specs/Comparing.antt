@@ -206,7 +206,7 @@ service_total : IsTotalOrder svcb.svcb_cmp
 service_total =
     then_total (on_total (λ (r : Record). r.priority) nat_cmp_total)
     (then_total (on_total (λ (r : Record). r.labels) name_total)
-        (on_total (λ (r : Record). wire r.pairs) octets_total))
+    (on_total (λ (r : Record). wire r.pairs) octets_total))
 
 kinds_total : IsTotalOrder by_kinds
 kinds_total =
@@ -214,7 +214,7 @@ kinds_total =
     (then_total (on_total octets_in (options_total octets_total))
     (then_total (on_total fields_in (options_total fields_total))
     (then_total (on_total gateway_in (options_total ipseckey_total))
-        (on_total service_in (options_total service_total)))))
+    (on_total service_in (options_total service_total)))))
 
 held_total : IsTotalOrder content_cmp
 held_total = subst IsTotalOrder (λ i x y. same_order x y i) kinds_total
@@ -260,6 +260,9 @@ pub same_union_hash_input : (x y : RecordData) → is_same_union x y ≡ true
 same_union_hash_input x y is =
     let first = and_parts (unknown_rank x == unknown_rank y) _ is in
     let second = and_parts (rtype_of x == rtype_of y)
-        (is_same_content (content_of x) (content_of y)) first.1 in
-    cc (same_number (rtype_of x) (rtype_of y) second.0, same_held_fed (rtype_of x) (content_of x)
-        (content_of y) second.1)
+    (is_same_content (content_of x) (content_of y)) first.1 in
+    cc (
+      same_number (rtype_of x) (rtype_of y) second.0,
+      same_held_fed (rtype_of x) (content_of x)
+          (content_of y) second.1,
+    )

@@ -8,5 +8,5 @@ use Rattle.std.specs.Cmp.Lexicographic.{slice_cmp}
 abbrev pub ComparesFront : List ℕ → List ℕ → Ordering → List ℕ → Type 0
 ComparesFront part octets order rest =
     (more : List ℕ)
-        → slice_cmp nat_cmp (part ++ more) octets
-        ≡ ordering_then order (slice_cmp nat_cmp more rest)
+    → slice_cmp nat_cmp (part ++ more) octets
+    ≡ ordering_then order (slice_cmp nat_cmp more rest)

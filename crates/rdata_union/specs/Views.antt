@@ -70,7 +70,7 @@ data_of_zone (zone.Svcb found) = spec.Svcb found
 data_of_zone (zone.Https found) = spec.Https found
 data_of_zone (zone.Unknown found) = spec.Unknown found
 
--- data that is lent
+-- data that is borrowed
 abbrev pub data_seen : RecordDataRef → spec.RecordData
 data_seen (lent.A found) = spec.A found.now
 data_seen (lent.Aaaa found) = spec.Aaaa found.now

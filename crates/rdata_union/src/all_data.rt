@@ -133,7 +133,7 @@ impl AllRecordData {
         self.for_ref().to_owned_data(alloc)
     }
 
-    /// The same data, lent. No memory is taken.
+    /// The same data, borrowed. No memory is taken.
     pub(crate) fn for_ref(&self) -> RecordDataRef<'_>
         ensures { data_seen result ≡ data_of_all self.now }
     {

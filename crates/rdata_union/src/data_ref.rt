@@ -1,4 +1,4 @@
-//! Data of records that is lent: what the types of this crate share.
+//! Data of records that is borrowed: what the types of this crate share.
 
 ghost use Rattle.std.specs.Prelude.{◌≡◌, Some, length, IfOk};
 ghost use Rattle.std.specs.List.{fold};
@@ -22,7 +22,7 @@ use svcb_rdata::{Https, Svcb};
 use wire_base::{ComposeRecordData, NoMemory, RecordData, Rtype};
 use wire_records::{A, Aaaa, UnknownRecordData};
 
-/// The data of a record of any type, lent.
+/// The data of a record of any type, borrowed.
 #[derive(Clone, Copy)]
 pub(crate) enum RecordDataRef<'a> {
     /// An IPv4 address.

@@ -78,7 +78,7 @@ impl ZoneRecordData {
         Ok(self.for_ref().to_owned_data(alloc)?.into_zone_data())
     }
 
-    /// The same data, lent. No memory is taken.
+    /// The same data, borrowed. No memory is taken.
     pub(crate) fn for_ref(&self) -> RecordDataRef<'_>
         ensures { data_seen result ≡ data_of_zone self.now }
     {

@@ -73,7 +73,7 @@ inner_plain Base64 in_brackets octets are = ArePlain-base64 octets are
 rest_scanned : (encoding : Encoding) (text octets : List ℕ) (front : List (List Symbol))
     → IsRead encoding text octets
     → rest_encoded encoding (front ++ text_tokens text) (length front)
-        ≡ done octets (length (front ++ text_tokens text))
+    ≡ done octets (length (front ++ text_tokens text))
 rest_scanned Base16 text octets front is =
     rest_taken base16_of BadBase16 front (text_tokens text) octets
     (ap base16_of (octets-text_tokens text) ∙ is)
@@ -84,7 +84,7 @@ rest_scanned Base64 text octets front is =
 -- its text has that token
 last_text : (encoding : Encoding) (in_brackets : Bool) (octets : List ℕ) → AreOctets octets
     → EntryText 0 (last_printed encoding in_brackets octets)
-        (text_tokens (inner_text encoding in_brackets octets))
+    (text_tokens (inner_text encoding in_brackets octets))
 last_text Base16 false octets are = bare_text (encode_lower octets) (ArePlain-lower octets are)
 last_text Base16 true octets are = bracketed_text (base16_text octets) (ArePlain-base16 octets are)
 last_text Base64 false octets are = bare_text (base64_text octets) (ArePlain-base64 octets are)
@@ -109,10 +109,10 @@ data_scanned row found text small is read =
     let tokens = data_tokens found text in
     let front = number_tokens found.numbers in
     let onward : List ℕ → ℕ → Scanned Data =
-        λ octets end. within_length row (record { numbers = found.numbers; last = octets }) tokens
-        end in
+    λ octets end. within_length row (record { numbers = found.numbers; last = octets }) tokens
+    end in
     let place : 0 + length found.numbers ≡ length front =
-        omega (arith, length-map found.numbers number_token) in
+    omega (arith, length-map found.numbers number_token) in
     numbers_scanned row.fields found.numbers small is.numbers (scan_last row) [] (text_tokens text)
     ∙ ap (λ (at : ℕ). scan_last row found.numbers tokens at) place
     ∙ ap (λ (s : Scanned (List ℕ)). scan_then s onward)
@@ -126,33 +126,33 @@ data_text_again row is_row found is =
     let small = each_small row.fields found.numbers is_row.small is.numbers in
     text_of (scan_data row) (fields_printed row found) found (data_tokens found text)
     (numbers_on found.numbers last (text_tokens text) small
-        (last_text row.encoding row.in_brackets found.last is.octets))
+    (last_text row.encoding row.in_brackets found.last is.octets))
     (data_scanned row found text is_row.small is
-        (inner_read row.encoding row.in_brackets found.last is.octets))
+    (inner_read row.encoding row.in_brackets found.last is.octets))
 
 -- ---- layouts
 
 data_front : (row : Row) (found : Data) → AreSmall row.fields → IsAssociationData row found
     → AreTokenTexts (data_document row found)
-        (data_tokens found (last_field_text row.encoding found.last))
+    (data_tokens found (last_field_text row.encoding found.last))
 data_front row found small is =
     let text = last_field_text row.encoding found.last in
     let plain = subst ArePlain (encoded_is row.encoding found.last)
-        (inner_plain row.encoding true found.last is.octets) in
+    (inner_plain row.encoding true found.last is.octets) in
     let items = numbers_items row.fields found.numbers in
     subst (λ (all : List _). AreTokenTexts (BlockBegin ∷ all) (data_tokens found text))
-        (sym (assoc items (Token text ∷ []) (BlockEnd ∷ [])))
+    (sym (assoc items (Token text ∷ []) (BlockEnd ∷ [])))
     (numbers_front row.fields found.numbers (Token text ∷ BlockEnd ∷ [])
-        (text_tokens text) is.numbers (each_small row.fields found.numbers small is.numbers)
-        (last_front text plain))
+    (text_tokens text) is.numbers (each_small row.fields found.numbers small is.numbers)
+    (last_front text plain))
 
 pub data_layout_again : FieldsLayoutReadBack
 data_layout_again row is_row found is kind =
     let text = last_field_text row.encoding found.last in
     let read = subst (λ t. IsRead row.encoding t found.last) (encoded_is row.encoding found.last)
-        (inner_read row.encoding true found.last is.octets) in
+    (inner_read row.encoding true found.last is.octets) in
     let tokens = data_tokens found text in
     text_of (scan_data row) _ found tokens
     (layout_splits kind (data_document row found) tokens (document-data row is_row.documents found)
-        (data_front row found is_row.small is))
+    (data_front row found is_row.small is))
     (data_scanned row found text is_row.small is read)

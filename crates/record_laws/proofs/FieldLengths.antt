@@ -29,10 +29,16 @@ numbers-length (field ∷ fields) (n ∷ numbers) are small =
     let below : n < 256 ^ field.width = are.0 in
     let most : 256 ^ field.width ≤ 2 ^ 64 = small.0 in
     let first : length (decimal n) ≤ 20 =
-        length-decimal-le 20 n (omega arith) (omega arith) (omega arith) in
+    length-decimal-le 20 n (omega arith) (omega arith) (omega arith) in
     let others = numbers-length fields numbers are.1 small.1 in
-    omega (arith, first, others, length-append (decimal n) (codes " "), length-append (spaced n)
-        (numbers_printed numbers))
+    omega (
+      arith,
+      first,
+      others,
+      length-append (decimal n) (codes " "),
+      length-append (spaced n)
+          (numbers_printed numbers),
+    )
 
 -- ---- last fields
 
@@ -40,19 +46,32 @@ pub last-length : (encoding : Encoding) (in_brackets : Bool) (octets : List ℕ)
     → length (last_printed encoding in_brackets octets) ≤ 2 * length octets + 6
 last-length Base16 false octets = omega (arith, length-encode_with lower_digits octets)
 last-length Base16 true octets =
-    omega (arith, length-encode_with upper_digits octets, length-append
-        (codes "( " ++ base16_text octets) (codes " )"))
+    omega (
+      arith,
+      length-encode_with upper_digits octets,
+      length-append
+          (codes "( " ++ base16_text octets) (codes " )"),
+    )
 last-length Base64 false octets = omega (arith, base64-length octets)
 last-length Base64 true octets =
-    omega (arith, base64-length octets, length-append (codes "( " ++ base64_text octets)
-    (codes " )"))
+    omega (
+      arith,
+      base64-length octets,
+      length-append (codes "( " ++ base64_text octets)
+          (codes " )"),
+    )
 
 pub fields-length : FieldsTextByOctets
 fields-length row small found is =
     let numbers = numbers-length row.fields found.numbers is.numbers small in
     let last = last-length row.encoding row.in_brackets found.last in
-    omega (arith, numbers, last, length-append (numbers_printed found.numbers)
-        (last_printed row.encoding row.in_brackets found.last))
+    omega (
+      arith,
+      numbers,
+      last,
+      length-append (numbers_printed found.numbers)
+          (last_printed row.encoding row.in_brackets found.last),
+    )
 
 -- ---- lines
 
@@ -60,9 +79,15 @@ line-length : (row : Row) → AreSmall row.fields → length row.fields ≤ 3 �
 line-length row small few found is =
     let text = fields-length row small found is in
     let fits = is.fits in
-    omega (arith, few, text, fits, length-append
-        (numbers_printed found.numbers ++ last_printed row.encoding row.in_brackets found.last)
-        (10 ∷ []))
+    omega (
+      arith,
+      few,
+      text,
+      fits,
+      length-append
+          (numbers_printed found.numbers ++ last_printed row.encoding row.in_brackets found.last)
+          (10 ∷ []),
+    )
 
 pub types-fit : TypesLinesFit
 types-fit = record {
@@ -84,5 +109,10 @@ pub unknown-length : UnknownTextByOctets
 unknown-length octets few =
     let count = number-length (length octets) (omega arith) in
     let behind = behind-length octets in
-    omega (arith, count, behind, length-append (codes "\\# " ++ decimal (length octets))
-        (base16_behind octets))
+    omega (
+      arith,
+      count,
+      behind,
+      length-append (codes "\\# " ++ decimal (length octets))
+          (base16_behind octets),
+    )

@@ -38,8 +38,8 @@ pub ipseckey-length : IpseckeyTextByOctets
 ipseckey-length found is =
     let numbers = found.precedence ∷ gateway_type found.gateway ∷ found.algorithm ∷ [] in
     let len_numbers =
-        numbers-length found.precedence (gateway_type found.gateway) found.algorithm is.precedence
-        (type-small found.gateway) is.algorithm in
+    numbers-length found.precedence (gateway_type found.gateway) found.algorithm is.precedence
+    (type-small found.gateway) is.algorithm in
     let gateway = gateway-length found.gateway is.gateway in
     let key = last-length Base64 true found.key in
     omega (

@@ -31,7 +31,7 @@ range_behind : (message octets behind : List ℕ) (pos : ℕ) → drop pos messa
     → drop (pos + length octets) message ≡ behind
 range_behind message octets behind pos is =
     sym (drop-drop pos (length octets) message) ∙ ap (drop (length octets)) is
-        ∙ drop-append_seam octets behind
+    ∙ drop-append_seam octets behind
 
 -- ---- the gateway
 
@@ -50,7 +50,7 @@ module _ (message behind : List ℕ) (end pos : ℕ) where
       → pos + length (gateway_wire gateway) ≤ end
       → drop pos message ≡ gateway_wire gateway ++ behind
       → gateway_read (gateway_type gateway) there
-          ≡ Ok (record { value = gateway; next = pos + length (gateway_wire gateway) })
+      ≡ Ok (record { value = gateway; next = pos + length (gateway_wire gateway) })
   gateway_again NoGateway is within left =
       let place : pos ≡ pos + 0 = omega arith in
       ap (λ (n : ℕ). Ok (record { value = NoGateway; next = n })) place
@@ -59,8 +59,8 @@ module _ (message behind : List ℕ) (end pos : ℕ) where
       let place : pos + 4 ≡ pos + length octets = omega arith in
       ap (λ (read : Result (DataRead (List ℕ)) Fault). read >>= as_gateway Ipv4Gateway)
       (unrefused (nat_lt end (pos + 4)) Short
-          (Ok (record { value = next_octets 4 there; next = pos + 4 }))
-          (not_below end (pos + 4) (omega arith)))
+      (Ok (record { value = next_octets 4 there; next = pos + 4 }))
+      (not_below end (pos + 4) (omega arith)))
       ∙ ap₂ (λ (found : List ℕ) (n : ℕ). Ok (record { value = Ipv4Gateway found; next = n }))
       (range_front message octets behind pos (pos + 4) left (sym place)) place
   gateway_again (Ipv6Gateway octets) is within left =
@@ -68,14 +68,14 @@ module _ (message behind : List ℕ) (end pos : ℕ) where
       let place : pos + 16 ≡ pos + length octets = omega arith in
       ap (λ (read : Result (DataRead (List ℕ)) Fault). read >>= as_gateway Ipv6Gateway)
       (unrefused (nat_lt end (pos + 16)) Short
-          (Ok (record { value = next_octets 16 there; next = pos + 16 }))
-          (not_below end (pos + 16) (omega arith)))
+      (Ok (record { value = next_octets 16 there; next = pos + 16 }))
+      (not_below end (pos + 16) (omega arith)))
       ∙ ap₂ (λ (found : List ℕ) (n : ℕ). Ok (record { value = Ipv6Gateway found; next = n }))
       (range_front message octets behind pos (pos + 16) left (sym place)) place
   gateway_again (NameGateway labels) is within left =
       let next = pos + length (name_wire labels) in
       ap (λ (read : Result NameRead Fault). read >>= name_gateway there)
-          (name_at-wire labels message behind end pos 0 0 is.0 within left)
+      (name_at-wire labels message behind end pos 0 0 is.0 within left)
       ∙ unrefused (is_pointed message end pos) Form
       (Ok (record { value = NameGateway labels; next = next }))
       (is_pointed-wire labels message behind end pos 0 is.0 within left)
@@ -87,8 +87,11 @@ module _ (found : Ipseckey) (front behind : List ℕ) where
   message = front ++ (ipseckey_wire found ++ behind)
 
   abbrev here : Input
-  here = record { message = message; end = length front + length (ipseckey_wire found);
-      pos = length front }
+  here = record {
+    message = message;
+    end = length front + length (ipseckey_wire found);
+    pos = length front;
+  }
 
   octet_in : (n : ℕ)
       → slice_index message (length front + n) ≡ get_or (ipseckey_wire found ++ behind) n 0
@@ -110,20 +113,20 @@ ipseckey_again found front behind is has =
     let fits = is.fits in
     let next = pos + 3 + length gw in
     let left : drop (pos + 3) message ≡ gw ++ (found.key ++ behind) =
-        drop-append-add front (ipseckey_wire found ++ behind) 3 ∙ assoc gw found.key behind in
+    drop-append-add front (ipseckey_wire found ++ behind) 3 ∙ assoc gw found.key behind in
     let left_key : drop next message ≡ found.key ++ behind =
-        range_behind message gw (found.key ++ behind) (pos + 3) left in
+    range_behind message gw (found.key ++ behind) (pos + 3) left in
     let gateway = gateway_again message (found.key ++ behind) end
-        (pos + 3) found.gateway is.gateway (omega arith) left in
+    (pos + 3) found.gateway is.gateway (omega arith) left in
     let key = range_front message found.key behind next end left_key (omega arith) in
     let read : ℕ → ℕ → ℕ → Result (DataRead Ipseckey) Fault =
     λ p t a. gateway_read t (record { message = message; end = end; pos = pos + 3 })
-        >>= key_read p a input in
+    >>= key_read p a input in
     let answer : Ipseckey → Result (DataRead Ipseckey) Fault =
-        λ d. Ok (record { value = d; next = end }) in
+    λ d. Ok (record { value = d; next = end }) in
     unrefused (nat_lt end (pos + 3)) Short
-        (read (slice_index message pos) (slice_index message (pos + 1))
-        (slice_index message (pos + 2))) (not_below end (pos + 3) (omega arith))
+    (read (slice_index message pos) (slice_index message (pos + 1))
+    (slice_index message (pos + 2))) (not_below end (pos + 3) (omega arith))
     ∙ ap (λ (p : ℕ). read p (slice_index message (pos + 1)) (slice_index message (pos + 2)))
     (first_octet found front behind)
     ∙ ap₂ (λ (t a : ℕ). read found.precedence t a) (octet_in found front behind 1)
@@ -132,8 +135,12 @@ ipseckey_again found front behind is has =
     >>= key_read found.precedence found.algorithm input) gateway
     ∙ ap (λ (k : List ℕ). cond (lacks_key found.algorithm k) (Err Short)
     (cond (nat_lt 65535 (end - pos)) (Err Form)
-    (answer (record { precedence = found.precedence; algorithm = found.algorithm;
-        gateway = found.gateway; key = k })))) key
+    (answer (record {
+      precedence = found.precedence;
+      algorithm = found.algorithm;
+      gateway = found.gateway;
+      key = k;
+    })))) key
     ∙ unrefused (lacks_key found.algorithm found.key) Short
     (cond (nat_lt 65535 (end - pos)) (Err Form) (answer found)) has
     ∙ unrefused (nat_lt 65535 (end - pos)) Form (answer found)

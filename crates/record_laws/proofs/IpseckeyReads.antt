@@ -56,23 +56,23 @@ name_within : (n : ℕ) (message : List ℕ) (end pos octets pointers : ℕ) (na
     → name_at message end pos octets pointers ≡ Ok name → name.next ≤ end
 name_within zero message end pos octets pointers name few plain read =
     elim (name_here message end pos octets pointers name read) [
-  | inl root ↦ rw root.name_is (omega (arith, root.here))
-  | inr (inl label) ↦ absurd (omega (arith, label.octets_fit))
-  | inr (inr pointer) ↦ absurd
-      (let pointed = is_pointed-pointer message end pos pointer.here pointer.high in cc)
-]
+      | inl root ↦ rw root.name_is (omega (arith, root.here))
+      | inr (inl label) ↦ absurd (omega (arith, label.octets_fit))
+      | inr (inr pointer) ↦ absurd
+          (let pointed = is_pointed-pointer message end pos pointer.here pointer.high in cc)
+    ]
 name_within (suc n) message end pos octets pointers name few plain read =
     elim (name_here message end pos octets pointers name read) [
-  | inl root ↦ rw root.name_is (omega (arith, root.here))
-  | inr (inl label) ↦
-      let on = sym (is_pointed-label message end pos label.here label.not_empty label.in_range)
+      | inl root ↦ rw root.name_is (omega (arith, root.here))
+      | inr (inl label) ↦
+          let on = sym (is_pointed-label message end pos label.here label.not_empty label.in_range)
           ∙ plain in
-      rw label.name_is
+          rw label.name_is
           (name_within n message end _ _ pointers label.rest (omega (arith, label.octets_fit)) on
           label.rest_is)
-  | inr (inr pointer) ↦ absurd
-      (let pointed = is_pointed-pointer message end pos pointer.here pointer.high in cc)
-]
+      | inr (inr pointer) ↦ absurd
+          (let pointed = is_pointed-pointer message end pos pointer.here pointer.high in cc)
+    ]
 
 module _ (message : List ℕ) (end pos : ℕ) (in_message : end ≤ length message)
     (are : AreOctets message) where
@@ -96,14 +96,14 @@ module _ (message : List ℕ) (end pos : ℕ) (in_message : end ≤ length messa
   address_there : (len : ℕ) (gateway : List ℕ → Gateway) (found : DataRead Gateway)
       → (address_read len there >>= as_gateway gateway) ≡ Ok found
       → (pos + len ≤ end)
-          × (record { value = gateway (slice_range message pos (pos + len)); next = pos + len }
-          ≡ found)
+      × (record { value = gateway (slice_range message pos (pos + len)); next = pos + len }
+      ≡ found)
   address_there len gateway found read =
       let step = before_ok (address_read len there) (as_gateway gateway) found read in
       let tested = not_refused (nat_lt end (pos + len)) Short
-          (Ok (record { value = next_octets len there; next = pos + len })) step.0 step.1 in
+      (Ok (record { value = next_octets len there; next = pos + len })) step.0 step.1 in
       let address = same_ok (record { value = next_octets len there; next = pos + len }) step.0
-          tested.1 in (
+      tested.1 in (
         above end (pos + len) tested.0,
         ap (λ (d : DataRead (List ℕ)). record { value = gateway d.value; next = d.next }) address
             ∙ same_ok (record { value = gateway step.0.value; next = step.0.next }) found step.2,
@@ -116,16 +116,19 @@ module _ (message : List ℕ) (end pos : ℕ) (in_message : end ≤ length messa
       let step = before_ok (name_at message end pos 0 0) (name_gateway there) found read in
       let name = step.0 in
       let gateway : DataRead Gateway = record { value = NameGateway name.labels; next = name.next }
-          in
+      in
       let tested = not_refused (is_pointed message end pos) Form (Ok gateway) found step.2 in
       let octets = name_wire-read message end pos 0 0 name in_message tested.0 step.1 in
       let wire = AreOctets-split (name_wire name.labels) (drop name.next message)
-          (subst AreOctets octets (AreOctets-drop pos message are)) in
+      (subst AreOctets octets (AreOctets-drop pos message are)) in
       subst (IsThere 3) (same_ok gateway found tested.1)
       (record {
         type_is = refl;
-        is = (AreLabels-read message end pos 0 0 name in_message step.1, labels_octets name.labels
-            wire.0);
+        is = (
+          AreLabels-read message end pos 0 0 name in_message step.1,
+          labels_octets name.labels
+              wire.0,
+        );
         octets = octets;
         within = name_within (steps_left 0 0) message end pos 0 0 name
             (omega arith) tested.0 step.1;
@@ -141,16 +144,24 @@ module _ (message : List ℕ) (end pos : ℕ) (in_message : end ≤ length messa
     four_there found read =
         let address = address_there 4 Ipv4Gateway found read in
         subst (IsThere 1) address.1
-        (record { type_is = refl; is = address_in 4 address.0;
-            octets = drop_split message pos (pos + 4) (omega arith); within = address.0 })
+        (record {
+          type_is = refl;
+          is = address_in 4 address.0;
+          octets = drop_split message pos (pos + 4) (omega arith);
+          within = address.0;
+        })
 
     sixteen_there : (found : DataRead Gateway) → (address_read 16 there >>= as_gateway Ipv6Gateway)
         ≡ Ok found → IsThere 2 found
     sixteen_there found read =
         let address = address_there 16 Ipv6Gateway found read in
         subst (IsThere 2) address.1
-        (record { type_is = refl; is = address_in 16 address.0;
-            octets = drop_split message pos (pos + 16) (omega arith); within = address.0 })
+        (record {
+          type_is = refl;
+          is = address_in 16 address.0;
+          octets = drop_split message pos (pos + 16) (omega arith);
+          within = address.0;
+        })
 
     gateway_there : (type : ℕ) (found : DataRead Gateway) → gateway_read type there ≡ Ok found
         → IsThere type found
@@ -181,12 +192,12 @@ drop_next (c ∷ message) zero within = refl
 drop_next (c ∷ message) (suc pos) within =
     let place : suc (pos + 1) ≡ suc pos + 1 = omega arith in
     drop_next message pos (omega arith)
-        ∙ ap (λ (n : ℕ). slice_index message pos ∷ drop n (c ∷ message)) place
+    ∙ ap (λ (n : ℕ). slice_index message pos ∷ drop n (c ∷ message)) place
 
 -- the first three octets, and the others
 three_first : (message : List ℕ) (pos : ℕ) → pos + 3 ≤ length message
     → drop pos message ≡ slice_index message pos ∷ slice_index message (pos + 1)
-        ∷ slice_index message (pos + 2) ∷ drop (pos + 3) message
+    ∷ slice_index message (pos + 2) ∷ drop (pos + 3) message
 three_first message pos within =
     let second : pos + 1 + 1 ≡ pos + 2 = omega arith in
     let third : pos + 2 + 1 ≡ pos + 3 = omega arith in
@@ -204,11 +215,11 @@ key_behind : (message wire : List ℕ) (pos next end : ℕ)
     → wire ++ slice_range message next end ≡ slice_range message pos end
 key_behind message wire pos next end is in_message within starts =
     let lengths : length (drop pos message) ≡ length wire + length (drop next message) =
-        ap length is ∙ length-append wire (drop next message) in
+    ap length is ∙ length-append wire (drop next message) in
     let count : end - pos ≡ length wire + (end - next) =
-        omega (arith, lengths, length-drop pos message, length-drop next message) in
+    omega (arith, lengths, length-drop pos message, length-drop next message) in
     sym (ap₂ (λ (n : ℕ) (rest : List ℕ). take n rest) count is
-        ∙ take-append-add wire (drop next message) (end - next))
+    ∙ take-append-add wire (drop next message) (end - next))
 
 pub ipseckey_reads : IpseckeyComposedBack
 ipseckey_reads input found are in_message read =
@@ -220,27 +231,38 @@ ipseckey_reads input found are in_message read =
     let a = slice_index message (pos + 2) in
     let behind : Input = record { message = message; end = end; pos = pos + 3 } in
     let tested = not_refused (nat_lt end (pos + 3)) Short
-        (gateway_read t behind >>= key_read p a input) found read in
+    (gateway_read t behind >>= key_read p a input) found read in
     let starts = above end (pos + 3) tested.0 in
     let step = before_ok (gateway_read t behind) (key_read p a input) found tested.1 in
     let gateway = step.0 in
     let stands = gateway_there message end (pos + 3) in_message are starts t gateway step.1 in
     let key = slice_range message gateway.next end in
     let whole : DataRead Ipseckey =
-        record { value = record { precedence = p; algorithm = a; gateway = gateway.value;
-        key = key }; next = end } in
+    record {
+      value = record {
+        precedence = p;
+        algorithm = a;
+        gateway = gateway.value;
+        key = key;
+      };
+      next = end;
+    } in
     let has = not_refused (lacks_key a key) Short
-        (cond (nat_lt 65535 (end - pos)) (Err Form) (Ok whole)) found step.2 in
+    (cond (nat_lt 65535 (end - pos)) (Err Form) (Ok whole)) found step.2 in
     let few = not_refused (nat_lt 65535 (end - pos)) Form (Ok whole) found has.1 in
     let limit = above 65535 (end - pos) few.0 in
     let wire = gateway_wire gateway.value in
     let rest = key_behind message wire (pos + 3) gateway.next end stands.octets in_message
-        stands.within starts in
+    stands.within starts in
     let count : end - pos ≡ suc (suc (suc (end - (pos + 3)))) = omega arith in
     let len : length (wire ++ key) ≡ end - (pos + 3) =
     ap length rest
-        ∙ omega (arith, length-take (end - (pos + 3)) (drop (pos + 3) message), length-drop
-        (pos + 3) message) in
+    ∙ omega (
+      arith,
+      length-take (end - (pos + 3)) (drop (pos + 3) message),
+      length-drop
+          (pos + 3) message,
+    ) in
     let octets : p ∷ gateway_type gateway.value ∷ a ∷ wire ++ key ≡ octets_left input =
     ap₂ (λ (type : ℕ) (others : List ℕ). p ∷ type ∷ a ∷ others) stands.type_is rest
     ∙ sym (ap₂ (λ (n : ℕ) (others : List ℕ). take n others) count

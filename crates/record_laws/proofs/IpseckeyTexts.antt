@@ -71,7 +71,7 @@ gateway_token NoGateway is =
 gateway_token (Ipv4Gateway octets) is =
     let own = ipv4_token octets is.0 is.1 in
     let means = address_means ipv4_of own.0 (ipv4_text octets) octets own.2
-        (ipv4_again octets is.0 is.1) in (
+    (ipv4_again octets is.0 is.1) in (
       own.0,
       record {
         text = own.1;
@@ -82,7 +82,7 @@ gateway_token (Ipv4Gateway octets) is =
 gateway_token (Ipv6Gateway octets) is =
     let own = ipv6_token octets is.0 is.1 in
     let means = address_means ipv6_of own.0 (ipv6_text octets) octets own.2
-        (ipv6_again octets is.0 is.1) in (
+    (ipv6_again octets is.0 is.1) in (
       own.0,
       record {
         text = own.1;
@@ -116,7 +116,7 @@ module _ (found : Ipseckey) (token : List Symbol) where
   abbrev tokens_of_data : List (List Symbol)
   tokens_of_data =
       number_token found.precedence ∷ number_token (gateway_type found.gateway)
-          ∷ number_token found.algorithm ∷ token ∷ key_tokens
+      ∷ number_token found.algorithm ∷ token ∷ key_tokens
 
 module _ (tokens : List (List Symbol)) where
   -- what follows each part of a scan
@@ -124,8 +124,8 @@ module _ (tokens : List (List Symbol)) where
   behind_gateway precedence algorithm gateway after =
       scan_then (rest_base64 tokens after) (λ key end.
       complete_ipseckey
-          (record { precedence = precedence; algorithm = algorithm; gateway = gateway; key = key })
-          tokens end)
+      (record { precedence = precedence; algorithm = algorithm; gateway = gateway; key = key })
+      tokens end)
 
   abbrev behind_algorithm : ℕ → ℕ → ℕ → ℕ → Scanned Ipseckey
   behind_algorithm precedence type algorithm after =
@@ -144,14 +144,14 @@ completed : (found : Ipseckey) (tokens : List (List Symbol)) (end : ℕ) → IsI
     → complete_ipseckey found tokens end ≡ done found end
 completed found tokens end is has =
     ap (λ (lacks : Bool). cond lacks (refused MissingKey end)
-        (cond (nat_lt 65535 (ipseckey_len found)) (refused LongRecord end) (done found end))) has
+    (cond (nat_lt 65535 (ipseckey_len found)) (refused LongRecord end) (done found end))) has
     ∙ within (ipseckey_len found) end LongRecord found is.fits
 
 -- they are scanned as it
 data_scanned : (found : Ipseckey) (token : List Symbol) → IsGatewayToken found.gateway token
     → IsIpseckey found → lacks_key found.algorithm found.key ≡ false
     → scan_ipseckey (tokens_of_data found token) 0
-        ≡ done found (length (tokens_of_data found token))
+    ≡ done found (length (tokens_of_data found token))
 data_scanned found token gateway is has =
     let p = found.precedence in
     let t = gateway_type found.gateway in
@@ -165,10 +165,10 @@ data_scanned found token gateway is has =
     let second : List (List Symbol) = number_token p ∷ number_token t ∷ [] in
     let third : List (List Symbol) = number_token p ∷ number_token t ∷ number_token a ∷ [] in
     let fourth : List (List Symbol) = number_token p ∷ number_token t ∷ number_token a ∷ token ∷ []
-        in
+    in
     ap (λ (s : Scanned ℕ). scan_then s (behind_precedence tokens))
-        (number_scanned 256 p [] (number_token t ∷ number_token a ∷ token ∷ rest) small
-        (omega arith))
+    (number_scanned 256 p [] (number_token t ∷ number_token a ∷ token ∷ rest) small
+    (omega arith))
     ∙ ap (λ (s : Scanned ℕ). scan_then s (behind_type tokens p))
     (number_scanned 256 t first (number_token a ∷ token ∷ rest) (omega arith) (omega arith))
     ∙ ap (λ (s : Scanned ℕ). scan_then s (behind_algorithm tokens p t))
@@ -179,7 +179,7 @@ data_scanned found token gateway is has =
     (λ key end. complete_ipseckey
     (record { precedence = p; algorithm = a; gateway = found.gateway; key = key }) tokens end))
     (rest_taken base64_of BadBase64 fourth rest found.key
-        (ap base64_of (octets-text_tokens (base64_text found.key)) ∙ base64_again found.key is.key))
+    (ap base64_of (octets-text_tokens (base64_text found.key)) ∙ base64_again found.key is.key))
     ∙ completed found tokens (length tokens) is has
 
 -- ---- printed
@@ -197,12 +197,12 @@ ipseckey_text_again found is has =
     let numbers = found.precedence ∷ gateway_type found.gateway ∷ found.algorithm ∷ [] in
     let behind = token_on 0 (32 ∷ last) rest text token gateway.1.text
     (blank_on 0 last rest 32 refl
-        (bracketed_text (base64_text found.key) (ArePlain-base64 found.key is.key))) in
+    (bracketed_text (base64_text found.key) (ArePlain-base64 found.key is.key))) in
     text_of scan_ipseckey (ipseckey_printed found) found (tokens_of_data found token)
     (subst (λ (t : List ℕ). HasTokens (numbers_printed numbers ++ t) (tokens_of_data found token))
-        (sym (assoc text (codes " ") last))
+    (sym (assoc text (codes " ") last))
     (numbers_on numbers (text ++ 32 ∷ last) (token ∷ rest)
-        (omega arith, (omega arith, (omega arith, tt))) behind))
+    (omega arith, (omega arith, (omega arith, tt))) behind))
     (data_scanned found token gateway.1 is has)
 
 -- ---- laid out
@@ -219,27 +219,27 @@ data_front found token gateway is =
     let last : List Item = Token (base64_text found.key) ∷ BlockEnd ∷ [] in
     let gateway_on : List Item = Token text ∷ Comment (codes "gateway") ∷ last in
     let algorithm_on : List Item =
-        Token (decimal found.algorithm) ∷ Comment (algorithm_comment found.algorithm)
-        ∷ Comment (codes "algorithm") ∷ gateway_on in
+    Token (decimal found.algorithm) ∷ Comment (algorithm_comment found.algorithm)
+    ∷ Comment (codes "algorithm") ∷ gateway_on in
     let type_on : List Item =
-        Token (decimal (gateway_type found.gateway)) ∷ Comment (type_comment found.gateway)
-        ∷ Comment (codes "gateway type") ∷ algorithm_on in
+    Token (decimal (gateway_type found.gateway)) ∷ Comment (type_comment found.gateway)
+    ∷ Comment (codes "gateway type") ∷ algorithm_on in
     let key_is = last_front (base64_text found.key) (ArePlain-base64 found.key is.key) in
     let gateway_is : AreTokenTexts gateway_on (token ∷ rest) =
     token_front text token (Comment (codes "gateway") ∷ last) rest
-        (some_text text token gateway.text) gateway.text key_is in
+    (some_text text token gateway.text) gateway.text key_is in
     let algorithm_is : AreTokenTexts algorithm_on (number_token found.algorithm ∷ token ∷ rest) =
     number_front found.algorithm
-        (Comment (algorithm_comment found.algorithm) ∷ Comment (codes "algorithm") ∷ gateway_on)
-        (token ∷ rest) (omega arith) gateway_is in
+    (Comment (algorithm_comment found.algorithm) ∷ Comment (codes "algorithm") ∷ gateway_on)
+    (token ∷ rest) (omega arith) gateway_is in
     let type_is : AreTokenTexts type_on
-        (number_token (gateway_type found.gateway) ∷ number_token found.algorithm ∷ token ∷ rest) =
+    (number_token (gateway_type found.gateway) ∷ number_token found.algorithm ∷ token ∷ rest) =
     number_front (gateway_type found.gateway)
-        (Comment (type_comment found.gateway) ∷ Comment (codes "gateway type") ∷ algorithm_on)
+    (Comment (type_comment found.gateway) ∷ Comment (codes "gateway type") ∷ algorithm_on)
     (number_token found.algorithm ∷ token ∷ rest) (omega arith) algorithm_is in
     number_front found.precedence (Comment (codes "precedence") ∷ type_on)
     (number_token (gateway_type found.gateway) ∷ number_token found.algorithm ∷ token ∷ rest)
-        (omega arith) type_is
+    (omega arith) type_is
 
 pub ipseckey_layout_again : IpseckeyLayoutReadBack
 ipseckey_layout_again found is has kind =
@@ -247,5 +247,5 @@ ipseckey_layout_again found is has kind =
     let tokens = tokens_of_data found gateway.0 in
     text_of scan_ipseckey _ found tokens
     (layout_splits kind (ipseckey_document found) tokens (document-ipseckey found)
-        (data_front found gateway.0 gateway.1 is))
+    (data_front found gateway.0 gateway.1 is))
     (data_scanned found gateway.0 gateway.1 is has)

@@ -46,7 +46,7 @@ number_again (suc k) n fits =
     ∙ ap number_of_octets (octets-above k (n / m) (n % m))
     ∙ number_again k (n % m) (mod_below n m (unit_pos k)) in
     ap₂ (λ (a b : ℕ). a + b) (ap₂ (λ (a b : ℕ). a * 256 ^ b) octet (length-octets k n)) lower
-        ∙ split
+    ∙ split
 
 below : (o m r : ℕ) → o < 256 → r < m → o * m + r < 256 * m
 below o m r lo lr = grind arith
@@ -56,8 +56,12 @@ pub number_below : (octets : List ℕ) → AreOctets octets
     → number_of_octets octets < 256 ^ length octets
 number_below [] are = omega arith
 number_below (o ∷ octets) are =
-    omega (arith, below o (256 ^ length octets) (number_of_octets octets) are.0
-        (number_below octets are.1), pow-suc 256 (length octets))
+    omega (
+      arith,
+      below o (256 ^ length octets) (number_of_octets octets) are.0
+          (number_below octets are.1),
+      pow-suc 256 (length octets),
+    )
 
 -- and they are those of the number that they are read as
 pub octets_again : (octets : List ℕ) → AreOctets octets
@@ -69,6 +73,6 @@ octets_again (o ∷ octets) are =
     let fits : o < 256 = are.0 in
     let octet : byte_at k (o * 256 ^ k + n) ≡ o =
     at_place k (o * 256 ^ k + n)
-        ∙ ap (λ (a : ℕ). a % 256) (div-mul-add o (256 ^ k) n (number_below octets are.1))
-        ∙ omega arith in
+    ∙ ap (λ (a : ℕ). a % 256) (div-mul-add o (256 ^ k) n (number_below octets are.1))
+    ∙ omega arith in
     ap₂ (λ (a : ℕ) (rest : List ℕ). a ∷ rest) octet (octets-above k o n ∙ octets_again octets are.1)

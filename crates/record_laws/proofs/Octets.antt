@@ -44,8 +44,8 @@ numbers_again (field ∷ fields) (n ∷ numbers) behind are =
     let rest = numbers_wire fields numbers ++ behind in
     let long = length-octets field.width n in
     ap (λ (octets : List ℕ). number_of_octets (take field.width octets)
-        ∷ numbers_in fields (drop field.width octets))
-        (append_assoc first (numbers_wire fields numbers) behind)
+    ∷ numbers_in fields (drop field.width octets))
+    (append_assoc first (numbers_wire fields numbers) behind)
     ∙ ap₂ (λ (f r : List ℕ). number_of_octets f ∷ numbers_in fields r)
     (take_front field.width first rest long) (drop_front field.width first rest long)
     ∙ ap₂ (λ (m : ℕ) (ms : List ℕ). m ∷ ms) (number_again field.width n are.0)
@@ -66,7 +66,7 @@ pub length-data_wire : (row : Row) (found : Data) → AreNumbers row.fields foun
     → length (data_wire row found) ≡ data_len row found
 length-data_wire row found are =
     length-append (numbers_wire row.fields found.numbers) found.last
-        ∙ ap (λ (n : ℕ). n + length found.last) (length-numbers_wire row.fields found.numbers are)
+    ∙ ap (λ (n : ℕ). n + length found.last) (length-numbers_wire row.fields found.numbers are)
 
 pub data_again : FieldsReadBack
 data_again row found is least =
@@ -77,11 +77,11 @@ data_again row found is least =
     answered (nat_lt (length octets) (fixed + row.least)) (nat_lt 65535 (length octets))
     (record { numbers = numbers_in row.fields octets; last = drop fixed octets })
     (not_below (length octets) (fixed + row.least) (omega arith))
-        (not_below 65535 (length octets) (omega arith))
+    (not_below 65535 (length octets) (omega arith))
     ∙ ap₂ (λ (numbers last : List ℕ). Ok (record { numbers = numbers; last = last }))
     (numbers_again row.fields found.numbers found.last is.numbers)
     (drop_front fixed (numbers_wire row.fields found.numbers) found.last
-        (length-numbers_wire row.fields found.numbers is.numbers))
+    (length-numbers_wire row.fields found.numbers is.numbers))
 
 -- ---- what is read
 
@@ -120,7 +120,7 @@ drop-drop (suc k) j (o ∷ octets) =
 -- the number of a field that is there
 there : (k : ℕ) (octets : List ℕ) → AreOctets octets → k ≤ length octets
     → (number_of_octets (take k octets) < 256 ^ k)
-        × (bytes_high_first k (number_of_octets (take k octets)) ≡ take k octets)
+    × (bytes_high_first k (number_of_octets (take k octets)) ≡ take k octets)
 there k octets are within =
     let front = take k octets in
     let long = length-front k octets within in (
@@ -136,9 +136,11 @@ AreNumbers-read [] octets are within = tt
 AreNumbers-read (field ∷ fields) octets are within =
     let rest = drop field.width octets in
     let first : field.width ≤ length octets = omega arith in
-    let behind = length-behind field.width octets first in
-    ((there field.width octets are first).0, AreNumbers-read fields rest
-        (AreOctets-drop field.width octets are) (omega arith))
+    let behind = length-behind field.width octets first in (
+      (there field.width octets are first).0,
+      AreNumbers-read fields rest
+          (AreOctets-drop field.width octets are) (omega arith),
+    )
 
 wire-read : (fields : List Field) (octets : List ℕ) → AreOctets octets
     → fixed_len fields ≤ length octets
@@ -152,7 +154,7 @@ wire-read (field ∷ fields) octets are within =
     let others = numbers_wire fields (numbers_in fields rest) in
     let lower = wire-read fields rest (AreOctets-drop w octets are) (omega arith) in
     append_assoc (bytes_high_first w (number_of_octets (take w octets))) others
-        (drop (w + fixed_len fields) octets)
+    (drop (w + fixed_len fields) octets)
     ∙ ap₂ (λ (f b : List ℕ). f ++ b) (there w octets are first).1
     (ap (λ (d : List ℕ). others ++ d) (sym (drop-drop w (fixed_len fields) octets)) ∙ lower)
     ∙ take-append-drop w octets
@@ -162,13 +164,13 @@ read_again row octets found are read =
     let fixed = fixed_len row.fields in
     let seen : Data = record { numbers = numbers_in row.fields octets; last = drop fixed octets } in
     let answer = was_read (nat_lt (length octets) (fixed + row.least))
-        (nat_lt 65535 (length octets)) seen found read in
+    (nat_lt 65535 (length octets)) seen found read in
     let long = above (length octets) (fixed + row.least) answer.0 in
     let few = above 65535 (length octets) answer.1 in
     let within : fixed ≤ length octets = omega arith in
     let behind = length-behind fixed octets within in
     subst (λ (d : Data). IsAssociationData row d × (row.least ≤ length d.last)
-        × (data_wire row d ≡ octets)) answer.2 (
+    × (data_wire row d ≡ octets)) answer.2 (
       record {
         numbers = AreNumbers-read row.fields octets are within;
         octets = AreOctets-drop fixed octets are;

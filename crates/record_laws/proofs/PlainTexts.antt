@@ -58,7 +58,7 @@ not_marker read token address none some =
 address_scanned : (type : List ℕ → RecordData) (read : List ℕ → Option (List ℕ)) (rtype : ℕ)
     (address : List ℕ) (token : List Symbol)
     → scan_fields rtype (token ∷ []) 0
-        ≡ scan_as type (one (by_octets read BadAddress)) (token ∷ []) 0
+    ≡ scan_as type (one (by_octets read BadAddress)) (token ∷ []) 0
     → read (35 ∷ []) ≡ None → read (octets_of token) ≡ Some address
     → union_scan rtype (token ∷ []) 0 ≡ done (type address) 1
 address_scanned type read rtype address token fields none some =
@@ -66,12 +66,12 @@ address_scanned type read rtype address token fields none some =
     let ending : RecordData → ℕ → Scanned RecordData = λ found end. at_end found tokens end in
     let marked : Scanned RecordData = scan_as (octets_under rtype) unknown_data tokens 1 in
     ap (λ (b : Bool). scan_then (cond b marked (scan_fields rtype tokens 0)) ending)
-        (not_marker read token address none some)
+    (not_marker read token address none some)
     ∙ ap (λ (s : Scanned RecordData). scan_then s ending) fields
     ∙ ap (λ (s : Scanned (List ℕ)). scan_then
     (scan_then s (λ found after. done (type found) after)) ending)
     (one_taken (by_octets read BadAddress) [] [] token address
-        (ap (λ (r : Option (List ℕ)). ok_or r BadAddress) some))
+    (ap (λ (r : Option (List ℕ)). ok_or r BadAddress) some))
 
 pub a_text_again : (address : List ℕ) → IsAddress 4 address
     → IsScannedAs (union_scan 1) (ipv4_text address) (A address)
@@ -79,9 +79,9 @@ unfolding read_ipv4 read_octet read_number
 a_text_again address is =
     let own = ipv4_token address is.0 is.1 in
     let read : ipv4_of (octets_of own.0) ≡ Some address =
-        ap ipv4_of own.2 ∙ ipv4_again address is.0 is.1 in
+    ap ipv4_of own.2 ∙ ipv4_again address is.0 is.1 in
     text_of (union_scan 1) (ipv4_text address) (A address) (own.0 ∷ [])
-        (has_token (ipv4_text address) own.0 own.1)
+    (has_token (ipv4_text address) own.0 own.1)
     (address_scanned A ipv4_of 1 address own.0 refl refl read)
 
 pub aaaa_text_again : (address : List ℕ) → IsAddress 16 address
@@ -90,9 +90,9 @@ unfolding read_ipv6 read_segments read_ipv4 read_octet read_number read_segment
 aaaa_text_again address is =
     let own = ipv6_token address is.0 is.1 in
     let read : ipv6_of (octets_of own.0) ≡ Some address =
-        ap ipv6_of own.2 ∙ ipv6_again address is.0 is.1 in
+    ap ipv6_of own.2 ∙ ipv6_again address is.0 is.1 in
     text_of (union_scan 28) (ipv6_text address) (Aaaa address) (own.0 ∷ [])
-        (has_token (ipv6_text address) own.0 own.1)
+    (has_token (ipv6_text address) own.0 own.1)
     (address_scanned Aaaa ipv6_of 28 address own.0 refl refl read)
 
 -- ---- octets
@@ -112,7 +112,7 @@ octets_on [] are = has_no_tokens
 octets_on (octet ∷ octets) are =
     let text = base16_text (octet ∷ octets) in
     blank_on 0 text (text_tokens text) 32 refl
-        (bare_text text (ArePlain-base16 (octet ∷ octets) are))
+    (bare_text text (ArePlain-base16 (octet ∷ octets) are))
 
 abbrev octets_tokens : List ℕ → List (List Symbol)
 octets_tokens octets = marker ∷ number_token (length octets) ∷ text_tokens (base16_text octets)
@@ -124,9 +124,9 @@ text_has octets are fits =
     let small : n < 2 ^ 64 = omega arith in
     let rest = text_tokens (base16_text octets) in
     let counted = token_on 0 (base16_behind octets) rest (decimal n) (number_token n)
-        (number_text n small) (octets_on octets are) in
+    (number_text n small) (octets_on octets are) in
     token_on 0 (32 ∷ decimal n ++ base16_behind octets) (number_token n ∷ rest)
-        (codes "\\#") marker marker_text
+    (codes "\\#") marker marker_text
     (blank_on 0 (decimal n ++ base16_behind octets) (number_token n ∷ rest) 32 refl counted)
 
 itself : (n : ℕ) → (n == n) ≡ true
@@ -137,7 +137,7 @@ not_below n = grind (arith, nat_tests)
 
 octets_scanned : (rtype : ℕ) (octets : List ℕ) → AreOctets octets → length octets ≤ 65535
     → union_scan rtype (octets_tokens octets) 0
-        ≡ done (octets_under rtype octets) (length (octets_tokens octets))
+    ≡ done (octets_under rtype octets) (length (octets_tokens octets))
 unfolding marker
 octets_scanned rtype octets are fits =
     let n = length octets in
@@ -146,16 +146,16 @@ octets_scanned rtype octets are fits =
     let found = octets_under rtype octets in
     let ending : RecordData → ℕ → Scanned RecordData = λ found end. at_end found tokens end in
     let held : List ℕ → ℕ → Scanned RecordData =
-        λ octets after. done (octets_under rtype octets) after in
+    λ octets after. done (octets_under rtype octets) after in
     let counted : ℕ → List ℕ → ℕ → Scanned (List ℕ) =
-        λ count octets end. cond (length octets == count) (done octets end) (refused BadNumber 1) in
+    λ count octets end. cond (length octets == count) (done octets end) (refused BadNumber 1) in
     let below : n < 2 ^ 16 = omega arith in
     let small : n < 2 ^ 64 = omega arith in
     let read : base16_of (flat_map octets_of rest) ≡ Some octets =
-        ap base16_of (octets-text_tokens (base16_text octets)) ∙ base16_again octets are in
+    ap base16_of (octets-text_tokens (base16_text octets)) ∙ base16_again octets are in
     ap (λ (s : Scanned ℕ). scan_then
-        (scan_then (scan_then s
-        (λ count after. scan_then (rest_base16 tokens after) (counted count))) held) ending)
+    (scan_then (scan_then s
+    (λ count after. scan_then (rest_base16 tokens after) (counted count))) held) ending)
     (number_scanned (2 ^ 16) n (marker ∷ []) rest below small)
     ∙ ap (λ (s : Scanned (List ℕ)). scan_then (scan_then (scan_then s (counted n)) held) ending)
     (rest_taken base16_of BadBase16 (marker ∷ number_token n ∷ []) rest octets read)
@@ -169,5 +169,5 @@ pub unknown_text_again : (found : UnknownData) → AreOctets found.octets
     → IsScannedAs (union_scan found.rtype) (unknown_text found.octets) (Unknown found)
 unknown_text_again found are fits =
     text_of (union_scan found.rtype) (unknown_text found.octets) (Unknown found)
-        (octets_tokens found.octets) (text_has found.octets are fits)
+    (octets_tokens found.octets) (text_has found.octets are fits)
     (octets_scanned found.rtype found.octets are fits)

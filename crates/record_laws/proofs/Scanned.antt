@@ -29,7 +29,7 @@ module _ {A B : Type 0} where
   first_outcome : (outcome : Result A ScanError) (place : ℕ) (next : A → ℕ → Scanned B) (y : B)
       (end : ℕ)
       → scan_then (record { outcome = outcome; place = place }) next ≡ done y end
-          → (x : A) × (outcome ≡ Ok x) × (next x place ≡ done y end)
+      → (x : A) × (outcome ≡ Ok x) × (next x place ≡ done y end)
   first_outcome (Ok x) place next y end is = (x, refl, is)
   first_outcome (Err fault) place next y end is =
       absurd (let outcomes = ap (λ (s : Scanned B). s.outcome) is in cc)
@@ -39,9 +39,12 @@ module _ {A B : Type 0} where
       → scan_then first next ≡ done y end
       → (x : A) × (first ≡ done x first.place) × (next x first.place ≡ done y end)
   first_done first next y end is =
-      let found = first_outcome first.outcome first.place next y end is in
-      (found.0, ap (λ (o : Result A ScanError). record { outcome = o; place = first.place })
-          found.1, found.2)
+      let found = first_outcome first.outcome first.place next y end is in (
+        found.0,
+        ap (λ (o : Result A ScanError). record { outcome = o; place = first.place })
+            found.1,
+        found.2,
+      )
 
 module _ {V : Type 0} where
   at_token-done : (place : ℕ) (answer : Result V ScanError) (x : V) (end : ℕ)
@@ -65,7 +68,7 @@ module _ {V : Type 0} where
       → (token : List Symbol) × (slice_get tokens place ≡ Some token) × (meaning token ≡ Ok x)
   one_done meaning tokens place x end is =
       token_found meaning (slice_get tokens place) x
-          (at_token-done place (next_token meaning tokens place) x end is)
+      (at_token-done place (next_token meaning tokens place) x end is)
 
   pub read_some : (read : Option V) (fault : ScanError) (x : V) → ok_or read fault ≡ Ok x
       → read ≡ Some x
@@ -74,7 +77,7 @@ module _ {V : Type 0} where
 
   rest_found : (read : Option V) (fault : ScanError) (place len : ℕ) (x : V) (end : ℕ)
       → elim read [ None ↦ refused fault place | Some x ↦ done x len ] ≡ done x end
-          → (read ≡ Some x) × (end ≡ len)
+      → (read ≡ Some x) × (end ≡ len)
   rest_found None fault place len x end is =
       absurd (let outcomes = ap (λ (s : Scanned V). s.outcome) is in cc)
   rest_found (Some y) fault place len x end is =
@@ -118,7 +121,7 @@ spelled_below : (bound : ℕ) (text : List ℕ) (n : ℕ) → spelled_number bou
 spelled_below bound text n is =
     let ds = without_leading_plus text in
     let tested = below_test (is_numeral ds && nat_lt (digits_value 10 ds) bound)
-        (digits_value 10 ds) n is in
+    (digits_value 10 ds) n is in
     let both = and_parts (is_numeral ds) (nat_lt (digits_value 10 ds) bound) tested.0 in
     subst (λ (m : ℕ). m < bound) tested.1 (lower (digits_value 10 ds) bound both.1)
 
@@ -128,23 +131,25 @@ pub number_done : (bound : ℕ) (tokens : List (List Symbol)) (place n end : ℕ
 number_done bound tokens place n end is =
     let token = one_done (by_octets (spelled_number bound) BadNumber) tokens place n end is in
     spelled_below bound (octets_of token.0) n
-        (read_some (spelled_number bound (octets_of token.0)) BadNumber n token.2)
+    (read_some (spelled_number bound (octets_of token.0)) BadNumber n token.2)
 
 numbers_done : {V : Type 0} (fields : List Field) (next : List ℕ → Scanning V)
     (tokens : List (List Symbol)) (place : ℕ) (y : V) (end : ℕ)
     → numbers_then fields next tokens place ≡ done y end → (numbers : List ℕ)
-        × AreNumbers fields numbers × (after : ℕ) × (next numbers tokens after ≡ done y end)
+    × AreNumbers fields numbers × (after : ℕ) × (next numbers tokens after ≡ done y end)
 numbers_done [] next tokens place y end is = ([], tt, place, is)
 numbers_done {V} (field ∷ fields) next tokens place y end is =
     let number = number_below (256 ^ field.width) tokens place in
     let onward : ℕ → ℕ → Scanned V =
-        λ n after. numbers_then fields (λ numbers. next (n ∷ numbers)) tokens after in
+    λ n after. numbers_then fields (λ numbers. next (n ∷ numbers)) tokens after in
     let first = first_done number onward y end is in
     let rest = numbers_done fields (λ numbers. next (first.0 ∷ numbers)) tokens number.place y end
-        first.2 in
-    (first.0 ∷ rest.0,
-        (number_done (256 ^ field.width) tokens place first.0 number.place first.1, rest.1),
-        rest.2, rest.3)
+    first.2 in (
+      first.0 ∷ rest.0,
+      (number_done (256 ^ field.width) tokens place first.0 number.place first.1, rest.1),
+      rest.2,
+      rest.3,
+    )
 
 -- ---- the last field
 
@@ -158,33 +163,38 @@ octets_left (suc place) (token ∷ tokens) are =
 pub encoded_done : (encoding : Encoding) (tokens : List (List Symbol)) (place : ℕ)
     (octets : List ℕ) (end : ℕ) → AreOctets (flat_map octets_of tokens)
     → rest_encoded encoding tokens place ≡ done octets end → AreOctets octets
-        × (end ≡ length tokens)
+    × (end ≡ length tokens)
 encoded_done Base16 tokens place octets end are is =
     let found = rest_done base16_of BadBase16 tokens place octets end is in
     (AreOctets-base16_of (flat_map octets_of (drop place tokens)) octets found.0, found.1)
 encoded_done Base64 tokens place octets end are is =
-    let found = rest_done base64_of BadBase64 tokens place octets end is in
-    (AreOctets-base64_of (flat_map octets_of (drop place tokens)) octets
-        (octets_left place tokens are) found.0, found.1)
+    let found = rest_done base64_of BadBase64 tokens place octets end is in (
+      AreOctets-base64_of (flat_map octets_of (drop place tokens)) octets
+          (octets_left place tokens are) found.0,
+      found.1,
+    )
 
 -- ---- data
 
 last_done : (row : Row) (numbers : List ℕ) (tokens : List (List Symbol)) (place : ℕ) (found : Data)
     (end : ℕ) → AreOctets (flat_map octets_of tokens)
     → AreNumbers row.fields numbers → scan_last row numbers tokens place ≡ done found end
-        → IsAssociationData row found × (end ≡ length tokens)
+    → IsAssociationData row found × (end ≡ length tokens)
 last_done row numbers tokens place found end are fit is =
     let rest = rest_encoded row.encoding tokens place in
     let made : List ℕ → Data = λ octets. record { numbers = numbers; last = octets } in
     let onward : List ℕ → ℕ → Scanned Data =
-        λ octets end. within_length row (made octets) tokens end in
+    λ octets end. within_length row (made octets) tokens end in
     let first = first_done rest onward found end is in
     let octets = encoded_done row.encoding tokens place first.0 rest.place are first.1 in
     let tested = test_done (nat_lt 65535 (data_len row (made first.0))) LongRecord rest.place end
-        (made first.0) found first.2 in (
+    (made first.0) found first.2 in (
       subst (IsAssociationData row) tested.1
-          (record { numbers = fit; octets = octets.0;
-          fits = above 65535 (data_len row (made first.0)) tested.0 }),
+          (record {
+            numbers = fit;
+            octets = octets.0;
+            fits = above 65535 (data_len row (made first.0)) tested.0;
+          }),
       sym tested.2 ∙ octets.1,
     )
 

@@ -23,7 +23,7 @@ use Rattle.record_spec.proofs.OctetLists.{AreOctets-split}
 dotted_octets : (text octets : List ℕ) → IsDotted text octets → IsAddress 4 octets
 dotted_octets text octets dotted =
     subst (IsAddress 4) (sym dotted.value)
-        (refl, (dotted.fit.0, (dotted.fit.1, (dotted.fit.2, (dotted.fit.3, tt)))))
+    (refl, (dotted.fit.0, (dotted.fit.1, (dotted.fit.2, (dotted.fit.3, tt)))))
 
 pub ipv4_octets : (text octets : List ℕ) → ipv4_of text ≡ Some octets → IsAddress 4 octets
 ipv4_octets text octets is = dotted_octets text octets (ipv4_spelled text octets is)
@@ -107,7 +107,7 @@ eight text segments is = elim is [
         ),
         AreSegments-append (elided.head ++ zeros) elided.tail
             (AreSegments-append elided.head zeros
-                (groups_fit false [] elided.head_text elided.head elided.head_groups)
+            (groups_fit false [] elided.head_text elided.head elided.head_groups)
             (AreSegments-replicate (8 - length elided.head - length elided.tail)))
             (groups_fit true [] elided.tail_text elided.tail elided.tail_groups),
       )
@@ -119,7 +119,7 @@ ipv6_octets text octets is =
     let segments = eight text spelled.0 spelled.1 in
     let count = segments.0 in
     subst (IsAddress 16) spelled.2
-        (omega (arith, length-octets_of spelled.0), octets_of_segments spelled.0 segments.1)
+    (omega (arith, length-octets_of spelled.0), octets_of_segments spelled.0 segments.1)
 
 -- ---- names
 
@@ -142,7 +142,7 @@ parts_octets : (token : List Symbol) → AreOctets (octets_of token)
 parts_octets [] are = tt
 parts_octets (symbol ∷ symbols) are =
     parts_on (is_bare_octet 46 symbol) symbol.octet (dotted_parts symbols) are.0
-        (parts_octets symbols are.1)
+    (parts_octets symbols are.1)
 
 final_octets : (parts : List (List ℕ)) → AreOctets (joined parts)
     → AreOctets (joined (without_final_dot parts))
@@ -152,11 +152,11 @@ final_octets (part ∷ [] ∷ []) are = are
 final_octets (part ∷ [] ∷ next ∷ parts) are =
     let both = AreOctets-split part (joined ([] ∷ next ∷ parts)) are in
     AreOctets-append part (joined (without_final_dot ([] ∷ next ∷ parts))) both.0
-        (final_octets ([] ∷ next ∷ parts) both.1)
+    (final_octets ([] ∷ next ∷ parts) both.1)
 final_octets (part ∷ (c ∷ next) ∷ parts) are =
     let both = AreOctets-split part (joined ((c ∷ next) ∷ parts)) are in
     AreOctets-append part (joined (without_final_dot ((c ∷ next) ∷ parts))) both.0
-        (final_octets ((c ∷ next) ∷ parts) both.1)
+    (final_octets ((c ∷ next) ∷ parts) both.1)
 
 -- labels that a name may have, of octets
 abbrev pub AreNameLabels : List (List ℕ) → Type 0

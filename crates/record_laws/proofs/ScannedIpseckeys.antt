@@ -28,7 +28,7 @@ token_octets [] place token are is = absurd cc
 token_octets (first ∷ tokens) zero token are is =
     let same : first ≡ token = cc in
     subst (λ (t : List Symbol). AreOctets (octets_of t)) same
-        (AreOctets-split (octets_of first) (flat_map octets_of tokens) are).0
+    (AreOctets-split (octets_of first) (flat_map octets_of tokens) are).0
 token_octets (first ∷ tokens) (suc place) token are is =
     token_octets tokens place token
     (AreOctets-split (octets_of first) (flat_map octets_of tokens) are).1 is
@@ -44,44 +44,44 @@ module _ (tokens : List (List Symbol)) (place : ℕ) (are : AreOctets (flat_map 
   nothing_scanned is =
       let token = one_done (by_octets no_gateway_of WrongGateway) tokens place gateway end is in
       none_found (bytes_eq (octets_of token.0) (codes ".")) gateway
-          (read_some (no_gateway_of (octets_of token.0)) WrongGateway gateway token.2)
+      (read_some (no_gateway_of (octets_of token.0)) WrongGateway gateway token.2)
 
   four_scanned : scan_then (ipv4_address tokens place)
       (λ octets after. done (Ipv4Gateway octets) after) ≡ done gateway end → IsGateway gateway
   four_scanned is =
       let first = first_done (ipv4_address tokens place)
-          (λ octets after. done (Ipv4Gateway octets) after) gateway end is in
+      (λ octets after. done (Ipv4Gateway octets) after) gateway end is in
       let token = one_done (by_octets ipv4_of BadAddress) tokens place first.0
-          (ipv4_address tokens place).place first.1 in
+      (ipv4_address tokens place).place first.1 in
       subst IsGateway (same_done (Ipv4Gateway first.0) gateway _ end first.2)
-          (ipv4_octets (octets_of token.0) first.0
-          (read_some (ipv4_of (octets_of token.0)) BadAddress first.0 token.2))
+      (ipv4_octets (octets_of token.0) first.0
+      (read_some (ipv4_of (octets_of token.0)) BadAddress first.0 token.2))
 
   sixteen_scanned : scan_then (ipv6_address tokens place)
       (λ octets after. done (Ipv6Gateway octets) after) ≡ done gateway end → IsGateway gateway
   sixteen_scanned is =
       let first = first_done (ipv6_address tokens place)
-          (λ octets after. done (Ipv6Gateway octets) after) gateway end is in
+      (λ octets after. done (Ipv6Gateway octets) after) gateway end is in
       let token = one_done (by_octets ipv6_of BadAddress) tokens place first.0
-          (ipv6_address tokens place).place first.1 in
+      (ipv6_address tokens place).place first.1 in
       subst IsGateway (same_done (Ipv6Gateway first.0) gateway _ end first.2)
-          (ipv6_octets (octets_of token.0) first.0
-          (read_some (ipv6_of (octets_of token.0)) BadAddress first.0 token.2))
+      (ipv6_octets (octets_of token.0) first.0
+      (read_some (ipv6_of (octets_of token.0)) BadAddress first.0 token.2))
 
   name_scanned : scan_then (name tokens place) (λ labels after. done (NameGateway labels) after)
       ≡ done gateway end → IsGateway gateway
   name_scanned is =
       let first = first_done (name tokens place) (λ labels after. done (NameGateway labels) after)
-          gateway end is in
+      gateway end is in
       let token = one_done by_name tokens place first.0 (name tokens place).place first.1 in
       subst IsGateway (same_done (NameGateway first.0) gateway _ end first.2)
       (name_labels token.0 first.0 (token_octets tokens place token.0 are token.1)
-          (read_some (name_of token.0) BadName first.0 token.2))
+      (read_some (name_of token.0) BadName first.0 token.2))
 
   by_test : (none four sixteen name : Bool) (first second third fourth : Scanned Gateway)
       → cond none first
-          (cond four second (cond sixteen third (cond name fourth (refused UnknownGateway place))))
-          ≡ done gateway end
+      (cond four second (cond sixteen third (cond name fourth (refused UnknownGateway place))))
+      ≡ done gateway end
       → (first ≡ done gateway end → IsGateway gateway)
       → (second ≡ done gateway end → IsGateway gateway)
       → (third ≡ done gateway end → IsGateway gateway)
@@ -96,14 +96,14 @@ module _ (tokens : List (List Symbol)) (place : ℕ) (are : AreOctets (flat_map 
   gateway_done : (type : ℕ) → scan_gateway type tokens place ≡ done gateway end → IsGateway gateway
   gateway_done type is =
       by_test (type == 0) (type == 1) (type == 2) (type == 3) _ _ _ _ is nothing_scanned
-          four_scanned sixteen_scanned name_scanned
+      four_scanned sixteen_scanned name_scanned
 
 -- ---- data
 
 complete_done : (found : Ipseckey) (tokens : List (List Symbol)) (place : ℕ) (made : Ipseckey)
     (end : ℕ) → complete_ipseckey made tokens place ≡ done found end
     → (lacks_key made.algorithm made.key ≡ false) × (nat_lt 65535 (ipseckey_len made) ≡ false)
-        × (made ≡ found) × (place ≡ end)
+    × (made ≡ found) × (place ≡ end)
 complete_done found tokens place made end is = tested (lacks_key made.algorithm made.key) refl is
   where
     tested : (lacks : Bool) → lacks_key made.algorithm made.key ≡ lacks
@@ -115,7 +115,7 @@ complete_done found tokens place made end is = tested (lacks_key made.algorithm 
     tested true holds is = absurd (let outcomes = ap (λ (d : Scanned Ipseckey). d.outcome) is in cc)
     tested false holds is =
         let rest = test_done (nat_lt 65535 (ipseckey_len made)) LongRecord place end made found is
-            in
+        in
         (holds, rest.0, rest.1, rest.2)
 
 -- what is scanned, beside the places
@@ -126,7 +126,7 @@ IsScanned tokens end found = IsIpseckey found × (lacks_key found.algorithm foun
 key_done : (tokens : List (List Symbol)) (place end : ℕ) (found : Ipseckey)
     → AreOctets (flat_map octets_of tokens)
     → (precedence algorithm : ℕ) (gateway : Gateway) → precedence < 256 → algorithm < 256
-        → IsGateway gateway
+    → IsGateway gateway
     → scan_then (rest_base64 tokens place)
     (λ key end. complete_ipseckey
     (record { precedence = precedence; algorithm = algorithm; gateway = gateway; key = key })
@@ -134,31 +134,40 @@ key_done : (tokens : List (List Symbol)) (place end : ℕ) (found : Ipseckey)
     → IsScanned tokens end found
 key_done tokens place end found are precedence algorithm gateway small small_too is_gateway is =
     let made : List ℕ → Ipseckey =
-        λ key. record { precedence = precedence; algorithm = algorithm; gateway = gateway;
-        key = key } in
+    λ key. record {
+      precedence = precedence;
+      algorithm = algorithm;
+      gateway = gateway;
+      key = key;
+    } in
     let rest = rest_base64 tokens place in
     let onward : List ℕ → ℕ → Scanned Ipseckey = λ key end. complete_ipseckey (made key) tokens end
-        in
+    in
     let first = first_done rest onward found end is in
     let key = encoded_done Base64 tokens place first.0 rest.place are first.1 in
     let tested = complete_done found tokens rest.place (made first.0) end first.2 in
     let data_is : IsIpseckey (made first.0) =
-    record { precedence = small; algorithm = small_too; gateway = is_gateway; key = key.0;
-        fits = above 65535 (ipseckey_len (made first.0)) tested.1 } in
+    record {
+      precedence = small;
+      algorithm = small_too;
+      gateway = is_gateway;
+      key = key.0;
+      fits = above 65535 (ipseckey_len (made first.0)) tested.1;
+    } in
     subst (IsScanned tokens end) tested.2 (data_is, tested.0, sym tested.3 ∙ key.1)
 
 pub scanned_ipseckey : ScannedIsIpseckey
 scanned_ipseckey tokens place end found are is =
     let behind_gateway : ℕ → ℕ → Gateway → ℕ → Scanned Ipseckey =
     λ p a g after. scan_then (rest_base64 tokens after)
-        (λ key end. complete_ipseckey
-        (record { precedence = p; algorithm = a; gateway = g; key = key }) tokens end) in
+    (λ key end. complete_ipseckey
+    (record { precedence = p; algorithm = a; gateway = g; key = key }) tokens end) in
     let behind_algorithm : ℕ → ℕ → ℕ → ℕ → Scanned Ipseckey =
-        λ p t a after. scan_then (scan_gateway t tokens after) (behind_gateway p a) in
+    λ p t a after. scan_then (scan_gateway t tokens after) (behind_gateway p a) in
     let behind_type : ℕ → ℕ → ℕ → Scanned Ipseckey =
-        λ p t after. scan_then (number_below 256 tokens after) (behind_algorithm p t) in
+    λ p t after. scan_then (number_below 256 tokens after) (behind_algorithm p t) in
     let behind_precedence : ℕ → ℕ → Scanned Ipseckey =
-        λ p after. scan_then (number_below 256 tokens after) (behind_type p) in
+    λ p after. scan_then (number_below 256 tokens after) (behind_type p) in
     let first = number_below 256 tokens place in
     let precedence = first_done first behind_precedence found end is in
     let second = number_below 256 tokens first.place in
@@ -167,8 +176,8 @@ scanned_ipseckey tokens place end found are is =
     let algorithm = first_done third (behind_algorithm precedence.0 type.0) found end type.2 in
     let fourth = scan_gateway type.0 tokens third.place in
     let gateway = first_done fourth (behind_gateway precedence.0 algorithm.0) found end algorithm.2
-        in
+    in
     key_done tokens fourth.place end found are precedence.0 algorithm.0 gateway.0
     (number_done 256 tokens place precedence.0 first.place precedence.1)
-        (number_done 256 tokens second.place algorithm.0 third.place algorithm.1)
+    (number_done 256 tokens second.place algorithm.0 third.place algorithm.1)
     (gateway_done tokens third.place are gateway.0 fourth.place type.0 gateway.1) gateway.2

@@ -27,8 +27,8 @@ module _ {V : Type 0} where
       → one meaning (front ++ token ∷ behind) (length front) ≡ done x (length front + 1)
   one_taken meaning front behind token x means =
       ap (λ (found : Option (List Symbol)). at_token (length front)
-          (elim found [ None ↦ Err EndOfEntry | Some token ↦ meaning token ]))
-          (token_at front behind token)
+      (elim found [ None ↦ Err EndOfEntry | Some token ↦ meaning token ]))
+      (token_at front behind token)
       ∙ ap (at_token (length front)) means
 
   -- all tokens behind a front are taken, where they mean something
@@ -36,10 +36,12 @@ module _ {V : Type 0} where
       (front behind : List (List Symbol)) (x : V) → read (flat_map octets_of behind) ≡ Some x
       → rest_by read fault (front ++ behind) (length front) ≡ done x (length (front ++ behind))
   rest_taken read fault front behind x means =
-      ap (λ (found : Option V). elim found [ None ↦ refused fault (length front)
-          | Some x ↦ done x (length (front ++ behind)) ])
+      ap (λ (found : Option V). elim found [
+        | None ↦ refused fault (length front)
+        | Some x ↦ done x (length (front ++ behind))
+      ])
       (ap (λ (left : List (List Symbol)). read (flat_map octets_of left))
-          (drop-append_seam front behind) ∙ means)
+      (drop-append_seam front behind) ∙ means)
 
   -- what is within the length is not refused
   pub within : (len end : ℕ) (fault : ScanError) (x : V) → len ≤ 65535

@@ -42,16 +42,16 @@ pub number_means : (bound n : ℕ) → n < bound → n < 2 ^ 64
     → by_octets (spelled_number bound) BadNumber (number_token n) ≡ Ok n
 number_means bound n below small =
     ap (λ (text : List ℕ). ok_or (spelled_number bound text) BadNumber)
-        (octets_of-plain (decimal n))
+    (octets_of-plain (decimal n))
     ∙ ap (λ (read : Option ℕ). ok_or read BadNumber) (spelled_number-decimal bound n below small)
 
 -- and is scanned as it
 pub number_scanned : (bound n : ℕ) (front behind : List (List Symbol)) → n < bound → n < 2 ^ 64
     → number_below bound (front ++ number_token n ∷ behind) (length front)
-        ≡ done n (length front + 1)
+    ≡ done n (length front + 1)
 number_scanned bound n front behind below small =
     one_taken (by_octets (spelled_number bound) BadNumber) front behind (number_token n) n
-        (number_means bound n below small)
+    (number_means bound n below small)
 
 -- ---- the tokens of numbers
 
@@ -88,16 +88,16 @@ numbers_scanned {V} (field ∷ fields) (n ∷ numbers) small are next front behi
     let tokens = front ++ token ∷ rest in
     let more : List ℕ → Scanning V = λ ns. next (n ∷ ns) in
     let onward : ℕ → ℕ → Scanned V =
-        λ m after. numbers_then fields (λ ns. next (m ∷ ns)) tokens after in
+    λ m after. numbers_then fields (λ ns. next (m ∷ ns)) tokens after in
     let front' = front ++ token ∷ [] in
     let moved : tokens ≡ front' ++ rest = sym (assoc front (token ∷ []) rest) in
     let long = length-append front (token ∷ []) in
     let before : length front + 1 ≡ length front' = omega arith in
     let after : length front' + length numbers ≡ length front + length (n ∷ numbers) = omega arith
-        in
+    in
     ap (λ (s : Scanned ℕ). scan_then s onward)
-        (number_scanned (256 ^ field.width) n front rest are.0
-        (small_one n (256 ^ field.width) are.0 small.0))
+    (number_scanned (256 ^ field.width) n front rest are.0
+    (small_one n (256 ^ field.width) are.0 small.0))
     ∙ ap₂ (λ (ts : List (List Symbol)) (place : ℕ). numbers_then fields more ts place) moved before
     ∙ numbers_scanned fields numbers small.1 are.1 more front' behind
     ∙ ap₂ (λ (ts : List (List Symbol)) (place : ℕ). next (n ∷ numbers) ts place) (sym moved) after
@@ -113,10 +113,10 @@ numbers_on (n ∷ numbers) text tokens small entry =
     let lower = numbers_on numbers text tokens small.1 entry in
     let moved : decimal n ++ 32 ∷ rest ≡ numbers_printed (n ∷ numbers) ++ text =
     sym (ap (λ (t : List ℕ). t ++ text) (assoc (decimal n) (codes " ") (numbers_printed numbers))
-        ∙ assoc (decimal n) (32 ∷ numbers_printed numbers) text) in
+    ∙ assoc (decimal n) (32 ∷ numbers_printed numbers) text) in
     subst (λ (t : List ℕ). EntryText 0 t (number_token n ∷ others)) moved
     (token_on 0 (32 ∷ rest) others (decimal n) (number_token n) (number_text n small.0)
-        (blank_on 0 rest others 32 refl lower))
+    (blank_on 0 rest others 32 refl lower))
 
 -- ---- the token of a last field, if it has a text
 
@@ -156,8 +156,8 @@ bracketed_text text plain =
     let tokens = text_tokens text in
     entry_from_gap 0 (40 ∷ 32 ∷ inner) tokens
     (opening_on 0 (32 ∷ inner) tokens
-        (entry_from_gap 1 (32 ∷ inner) tokens
-        (blank_on 1 inner tokens 32 refl (before_closing text plain))))
+    (entry_from_gap 1 (32 ∷ inner) tokens
+    (blank_on 1 inner tokens 32 refl (before_closing text plain))))
 
 -- ---- documents
 
@@ -185,16 +185,16 @@ commented_front n (Some comment) items tokens small are =
 pub numbers_front : (fields : List Field) (numbers : List ℕ) (items : List Item)
     (tokens : List (List Symbol)) → AreNumbers fields numbers → EachSmall numbers
     → AreTokenTexts items tokens
-        → AreTokenTexts (numbers_items fields numbers ++ items) (number_tokens numbers ++ tokens)
+    → AreTokenTexts (numbers_items fields numbers ++ items) (number_tokens numbers ++ tokens)
 numbers_front [] [] items tokens fit small are = are
 numbers_front [] (n ∷ numbers) items tokens fit small are = absurd fit
 numbers_front (field ∷ fields) [] items tokens fit small are = absurd fit
 numbers_front (field ∷ fields) (n ∷ numbers) items tokens fit small are =
     let rest = numbers_items fields numbers ++ items in
     subst (λ (all : List Item). AreTokenTexts all (number_tokens (n ∷ numbers) ++ tokens))
-        (sym (assoc (number_with_comment n (field.comment n)) (numbers_items fields numbers) items))
+    (sym (assoc (number_with_comment n (field.comment n)) (numbers_items fields numbers) items))
     (commented_front n (field.comment n) rest (number_tokens numbers ++ tokens) small.0
-        (numbers_front fields numbers items tokens fit.1 small.1 are))
+    (numbers_front fields numbers items tokens fit.1 small.1 are))
 
 -- the last field, behind which a block ends
 pub last_front : (text : List ℕ) → ArePlain text
@@ -212,6 +212,6 @@ text_of scanning text found tokens has scanned =
       has = (tokens, has);
       scanned = λ others have.
           let same : tokens ≡ others =
-              sym (has_tokens text tokens has).1 ∙ (has_tokens text others have).1 in
+          sym (has_tokens text tokens has).1 ∙ (has_tokens text others have).1 in
           subst (λ (ts : List (List Symbol)). scanning ts 0 ≡ done found (length ts)) same scanned;
     }

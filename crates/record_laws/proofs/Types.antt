@@ -5,14 +5,22 @@ use Rattle.record_laws.specs.RecordLaws.{TypesAreRows}
 
 pub types_are : TypesAreRows
 types_are = record {
-  cds_is = record { small = (omega arith, (omega arith, (omega arith, tt))); documents = cds_fields
-      };
-  cdnskey_is = record { small = (omega arith, (omega arith, (omega arith, tt)));
-      documents = cdnskey_fields };
+  cds_is = record {
+    small = (omega arith, (omega arith, (omega arith, tt)));
+    documents = cds_fields;
+  };
+  cdnskey_is = record {
+    small = (omega arith, (omega arith, (omega arith, tt)));
+    documents = cdnskey_fields;
+  };
   sshfp_is = record { small = (omega arith, (omega arith, tt)); documents = sshfp_fields };
-  tlsa_is = record { small = (omega arith, (omega arith, (omega arith, tt)));
-      documents = tlsa_fields };
-  zonemd_is = record { small = (omega arith, (omega arith, (omega arith, tt)));
-      documents = zonemd_fields };
+  tlsa_is = record {
+    small = (omega arith, (omega arith, (omega arith, tt)));
+    documents = tlsa_fields;
+  };
+  zonemd_is = record {
+    small = (omega arith, (omega arith, (omega arith, tt)));
+    documents = zonemd_fields;
+  };
   openpgpkey_is = record { small = tt; documents = tt };
 }

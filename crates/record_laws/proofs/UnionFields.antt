@@ -37,38 +37,38 @@ number_unmarked bound next [] found end is = refl
 number_unmarked bound next ([] ∷ tokens) found end is = refl
 number_unmarked {V} bound next ((symbol ∷ []) ∷ tokens) found end is =
     elim (cases_eq symbol.octet 35) [
-  | inl marks ↦
-      let here : scan_then (number_below bound ((symbol ∷ []) ∷ tokens) 0) next
+      | inl marks ↦
+          let here : scan_then (number_below bound ((symbol ∷ []) ∷ tokens) 0) next
           ≡ refused BadNumber 0 =
-      ap (λ octet. scan_then (at_token 0 (ok_or (spelled_number bound (octet ∷ [])) BadNumber))
+          ap (λ octet. scan_then (at_token 0 (ok_or (spelled_number bound (octet ∷ [])) BadNumber))
           next) marks in
-      absurd (not_both BadNumber 0 found end (sym here ∙ is))
-  | inr other ↦ grind (arith, nat_tests)
-]
+          absurd (not_both BadNumber 0 found end (sym here ∙ is))
+      | inr other ↦ grind (arith, nat_tests)
+    ]
 number_unmarked bound next ((symbol ∷ other ∷ symbols) ∷ tokens) found end is = refl
 
 -- fields the first of which has a number
 pub numbers_unmarked : {V : Type 0} (fields : List Field) (next : List ℕ → Scanning V)
     (tokens : List (List Symbol)) (found : V) (end : ℕ)
     → nat_lt 0 (length fields) ≡ true → numbers_then fields next tokens 0 ≡ done found end
-        → is_marked tokens 0 ≡ false
+    → is_marked tokens 0 ≡ false
 numbers_unmarked [] next tokens found end some is = absurd cc
 numbers_unmarked (field ∷ fields) next tokens found end some is =
     number_unmarked (256 ^ field.width)
-        (λ n after. numbers_then fields (λ numbers. next (n ∷ numbers)) tokens after) tokens found
-        end is
+    (λ n after. numbers_then fields (λ numbers. next (n ∷ numbers)) tokens after) tokens found
+    end is
 
 -- where the type with a number has fields of its own
 module _ {V : Type 0} (rtype : ℕ) (type : V → RecordData) (scanning : Scanning V)
     (fields : (tokens : List (List Symbol))
-        → scan_fields rtype tokens 0 ≡ scan_as type scanning tokens 0) where
+    → scan_fields rtype tokens 0 ≡ scan_as type scanning tokens 0) where
   under_number : (tokens : List (List Symbol)) (found : V) → is_marked tokens 0 ≡ false
       → scanning tokens 0 ≡ done found (length tokens)
       → union_scan rtype tokens 0 ≡ done (type found) (length tokens)
   under_number tokens found unmarked scans =
       let any : scan_any rtype tokens 0 ≡ done (type found) (length tokens) =
       ap (λ marked. cond marked (scan_as (octets_under rtype) unknown_data tokens 1)
-          (scan_fields rtype tokens 0)) unmarked
+      (scan_fields rtype tokens 0)) unmarked
       ∙ fields tokens
       ∙ ap (λ (first : Scanned V). scan_then first (λ x after. done (type x) after)) scans in
       ap (λ (first : Scanned RecordData). scan_then first (λ x end. at_end x tokens end)) any
@@ -78,7 +78,7 @@ module _ {V : Type 0} (rtype : ℕ) (type : V → RecordData) (scanning : Scanni
   -- the text of fields, where its tokens don't begin with the marker
   pub text_under : (text : List ℕ) (found : V) → IsScannedAs scanning text found
       → ((tokens : List (List Symbol)) → HasTokens text tokens
-          → scanning tokens 0 ≡ done found (length tokens) → is_marked tokens 0 ≡ false)
+      → scanning tokens 0 ≡ done found (length tokens) → is_marked tokens 0 ≡ false)
       → IsScannedAs (union_scan rtype) text (type found)
   text_under text found is unmarked = record {
     has = is.has;

@@ -34,15 +34,15 @@ use Rattle.record_laws.proofs.UnionFields.{number_unmarked, numbers_unmarked, te
 module _ (texts : FieldsTextReadBack) (rtype : ℕ) (type : Data → RecordData) (row : Row)
     (is_row : IsLawfulRow row)
     (fields : (tokens : List (List Symbol))
-        → scan_fields rtype tokens 0 ≡ scan_as type (scan_data row) tokens 0)
+    → scan_fields rtype tokens 0 ≡ scan_as type (scan_data row) tokens 0)
     (numbered : nat_lt 0 (length row.fields) ≡ true) where
   fields_text : (found : Data) → IsAssociationData row found
       → IsScannedAs (union_scan rtype) (fields_printed row found) (type found)
   fields_text found is =
       text_under rtype type (scan_data row) fields (fields_printed row found) found
-          (texts row is_row found is)
+      (texts row is_row found is)
       (λ tokens has scans. numbers_unmarked row.fields (scan_last row) tokens found
-          (length tokens) numbered scans)
+      (length tokens) numbered scans)
 
 -- ---- OPENPGPKEY: a key alone
 
@@ -54,7 +54,7 @@ text_unmarked (c ∷ next ∷ text) = refl
 
 key_has : (numbers octets : List ℕ) → AreNumbers [] numbers → AreOctets octets
     → HasTokens (numbers_printed numbers ++ last_printed Base64 true octets)
-        (text_tokens (base64_text octets))
+    (text_tokens (base64_text octets))
 key_has [] octets none are = bracketed_text (base64_text octets) (ArePlain-base64 octets are)
 key_has (n ∷ numbers) octets none are = absurd none
 
@@ -65,8 +65,8 @@ key_unmarked found is tokens has =
     let text = base64_text found.last in
     let own = key_has found.numbers found.last is.numbers is.octets in
     let same : text_tokens text ≡ tokens =
-        sym (has_tokens (fields_printed openpgpkey found) (text_tokens text) own).1
-        ∙ (has_tokens (fields_printed openpgpkey found) tokens has).1 in
+    sym (has_tokens (fields_printed openpgpkey found) (text_tokens text) own).1
+    ∙ (has_tokens (fields_printed openpgpkey found) tokens has).1 in
     subst (λ (ts : List (List Symbol)). is_marked ts 0 ≡ false) same (text_unmarked text)
 
 openpgpkey_text : FieldsTextReadBack → IsLawfulRow openpgpkey → (found : Data)
@@ -74,7 +74,7 @@ openpgpkey_text : FieldsTextReadBack → IsLawfulRow openpgpkey → (found : Dat
     → IsScannedAs (union_scan 61) (fields_printed openpgpkey found) (Openpgpkey found)
 openpgpkey_text texts is_row found is =
     text_under 61 Openpgpkey (scan_data openpgpkey) (λ tokens. refl)
-        (fields_printed openpgpkey found) found (texts openpgpkey is_row found is)
+    (fields_printed openpgpkey found) found (texts openpgpkey is_row found is)
     (λ tokens has scans. key_unmarked found is tokens has)
 
 -- ---- IPSECKEY
@@ -89,8 +89,8 @@ ipseckey_unmarked tokens found end scans =
     scan_then (scan_gateway type tokens after_algorithm) (λ gateway after_gateway.
     scan_then (rest_base64 tokens after_gateway) (λ key end.
     complete_ipseckey
-        (record { precedence = precedence; algorithm = algorithm; gateway = gateway; key = key })
-        tokens end)))))
+    (record { precedence = precedence; algorithm = algorithm; gateway = gateway; key = key })
+    tokens end)))))
     tokens found end scans
 
 ipseckey_text : IpseckeyTextReadBack → (found : ipseckeys.Ipseckey) → IsIpseckey found
@@ -98,7 +98,7 @@ ipseckey_text : IpseckeyTextReadBack → (found : ipseckeys.Ipseckey) → IsIpse
     → IsScannedAs (union_scan 45) (ipseckey_printed found) (Ipseckey found)
 ipseckey_text texts found is has_key =
     text_under 45 Ipseckey scan_ipseckey (λ tokens. refl) (ipseckey_printed found) found
-        (texts found is has_key)
+    (texts found is has_key)
     (λ tokens has scans. ipseckey_unmarked tokens found (length tokens) scans)
 
 -- ---- a service and its parameters
@@ -107,9 +107,11 @@ service_text : (found : Record) → service.IsRecordOfOctets found
     → IsScannedAs svcb_data (svcb.svcb_printed found) found
 service_text found is =
     let text = text_again found is in
-    record { has = text.some;
-        scanned = λ tokens are. text.scanned tokens are []
-        ∙ ap (done found) (zero-add (length tokens)) }
+    record {
+      has = text.some;
+      scanned = λ tokens are. text.scanned tokens are []
+          ∙ ap (done found) (zero-add (length tokens));
+    }
 
 service_unmarked : (found : Record) (tokens : List (List Symbol))
     → svcb_data tokens 0 ≡ done found (length tokens) → is_marked tokens 0 ≡ false
@@ -124,10 +126,10 @@ service_unmarked found tokens scans =
 service_under : (rtype : ℕ) (type : Record → RecordData)
     → ((tokens : List (List Symbol)) → scan_fields rtype tokens 0 ≡ scan_as type svcb_data tokens 0)
     → (found : Record) → service.IsRecordOfOctets found
-        → IsScannedAs (union_scan rtype) (svcb.svcb_printed found) (type found)
+    → IsScannedAs (union_scan rtype) (svcb.svcb_printed found) (type found)
 service_under rtype type fields found is =
     text_under rtype type svcb_data fields (svcb.svcb_printed found) found (service_text found is)
-        (λ tokens has scans. service_unmarked found tokens scans)
+    (λ tokens has scans. service_unmarked found tokens scans)
 
 -- ---- any type
 

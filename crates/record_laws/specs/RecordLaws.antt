@@ -66,7 +66,7 @@ abbrev pub ScannedIsData : Type 0
 ScannedIsData = (row : Row) (tokens : List (List Symbol)) (place end : ℕ) (found : Data)
     → AreOctets (flat_map octets_of tokens)
     → scan_data row tokens place ≡ done found end → IsAssociationData row found
-        × (end ≡ length tokens)
+    × (end ≡ length tokens)
 
 -- data that is printed is scanned
 abbrev pub FieldsTextReadBack : Type 0

@@ -108,8 +108,12 @@ without_gateway : Ipseckey
 without_gateway = record { precedence = 10; algorithm = 0; gateway = NoGateway; key = [] }
 
 to_name : Ipseckey
-to_name = record { precedence = 10; algorithm = 0; gateway = NameGateway (codes "a" ∷ []);
-    key = [] }
+to_name = record {
+  precedence = 10;
+  algorithm = 0;
+  gateway = NameGateway (codes "a" ∷ []);
+  key = [];
+}
 
 no_gateway_octets : ipseckey_wire without_gateway ≡ 10 ∷ 0 ∷ 0 ∷ []
 unfolding without_gateway
@@ -165,8 +169,12 @@ unknown_type_read : ipseckey_read (record { message = 10 ∷ 4 ∷ 2 ∷ 1 ∷ [
 unknown_type_read = refl
 
 to_address : Ipseckey
-to_address = record { precedence = 10; algorithm = 2;
-    gateway = Ipv4Gateway (192 ∷ 0 ∷ 2 ∷ 38 ∷ []); key = codes "key" }
+to_address = record {
+  precedence = 10;
+  algorithm = 2;
+  gateway = Ipv4Gateway (192 ∷ 0 ∷ 2 ∷ 38 ∷ []);
+  key = codes "key";
+}
 
 address_octets : ipseckey_wire to_address ≡ 10 ∷ 1 ∷ 2 ∷ 192 ∷ 0 ∷ 2 ∷ 38 ∷ codes "key"
 unfolding to_address

@@ -15,7 +15,7 @@ abbrev pub is_same_fields : Data → Data → Bool
 is_same_fields =
     eq_of_both (on (λ d. d.numbers) (pointwise ◌==◌)) (on (λ d. d.last) (pointwise ◌==◌))
 
--- by the numbers in turn, then the last field octet by octet, a front of the other's octets first
+-- by the numbers in turn, then the last field octet by octet, a prefix of the other's octets first
 abbrev pub fields_cmp : Data → Data → Ordering
 fields_cmp = then_cmp (on (λ d. d.numbers) (slice_cmp nat_cmp))
     (on (λ d. d.last) (slice_cmp nat_cmp))

@@ -25,7 +25,7 @@ document-numbers [] numbers have = document-nil
 document-numbers (field ∷ fields) [] have = document-nil
 document-numbers (field ∷ fields) (n ∷ numbers) have =
     document-append (number_with_comment n (field.comment n)) (numbers_items fields numbers)
-        (have.0 n) (document-numbers fields numbers have.1)
+    (have.0 n) (document-numbers fields numbers have.1)
 
 -- and so are those of the data
 pub document-data : (row : Row) → HaveDocuments row.fields → (found : Data)
@@ -34,7 +34,7 @@ document-data row have found =
     let last = last_field_text row.encoding found.last in
     document-block (numbers_items row.fields found.numbers ++ Token last ∷ [])
     (document-append (numbers_items row.fields found.numbers) (Token last ∷ [])
-        (document-numbers row.fields found.numbers have) (document-tokens (last ∷ [])))
+    (document-numbers row.fields found.numbers have) (document-tokens (last ∷ [])))
 
 -- ---- fields
 
@@ -60,7 +60,7 @@ document-registered : (name : List ℕ) (rows : List (ℕ × List ℕ)) → is_o
     → IsDocument (number_with_comment n ((registry_number name rows).comment n))
 document-registered name rows h table n =
     commented_by n (number_comment name (mnemonic_of rows n))
-        (one_line-number_comment name rows n h (mnemonic_of-one_line 256 rows table))
+    (one_line-number_comment name rows n h (mnemonic_of-one_line 256 rows table))
 
 algorithm : (n : ℕ)
     → IsDocument
@@ -125,18 +125,28 @@ document-gateway gateway = document-tokens (gateway_text gateway ∷ [])
 pub document-ipseckey : (found : Ipseckey) → IsDocument (ipseckey_document found)
 document-ipseckey found =
     let type = one_line-number_comment (codes "ipseckey gateway type") ipseckey_gateway_types
-        (gateway_type found.gateway) refl
+    (gateway_type found.gateway) refl
     (mnemonic_of-one_line 256 ipseckey_gateway_types refl) in
     let algorithm =
-        one_line-number_comment (codes "ipseckey algorithm") ipseckey_algorithms found.algorithm
-        refl
+    one_line-number_comment (codes "ipseckey algorithm") ipseckey_algorithms found.algorithm
+    refl
     (mnemonic_of-one_line 256 ipseckey_algorithms refl) in
     record {
       closes = λ b. refl;
       comments = (
         one_line (codes "precedence") refl,
-        (type, (one_line (codes "gateway type") refl,
-            (algorithm, (one_line (codes "algorithm") refl,
-            (one_line (codes "gateway") refl, tt))))),
+        (
+          type,
+          (
+            one_line (codes "gateway type") refl,
+            (
+              algorithm,
+              (
+                one_line (codes "algorithm") refl,
+                (one_line (codes "gateway") refl, tt),
+              ),
+            ),
+          ),
+        ),
       );
     }

@@ -28,5 +28,5 @@ last_field_text Base64 octets = base64_text octets
 abbrev pub data_document : Row → Data → List Item
 data_document row found =
     BlockBegin ∷
-        (numbers_items row.fields found.numbers ++ Token (last_field_text row.encoding found.last)
-        ∷ []) ++ BlockEnd ∷ []
+    (numbers_items row.fields found.numbers ++ Token (last_field_text row.encoding found.last)
+    ∷ []) ++ BlockEnd ∷ []

@@ -172,7 +172,7 @@ same_ipseckey_hash_input x y is =
     let first = and_parts (x.precedence == y.precedence) _ is in
     let second = and_parts (x.algorithm == y.algorithm) _ first.1 in
     let third = and_parts (is_same_gateway x.gateway y.gateway)
-        (pointwise ◌==◌ x.key y.key) second.1 in
+    (pointwise ◌==◌ x.key y.key) second.1 in
     cc (
       same_number x.precedence y.precedence first.0,
       same_number x.algorithm y.algorithm second.0,

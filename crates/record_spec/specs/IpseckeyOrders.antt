@@ -60,8 +60,8 @@ name_total = on_total from_last (lists_total (lists_total nat_cmp_total))
 fields_total : IsTotalOrder by_fields
 fields_total =
     then_total (on_total gateway_type nat_cmp_total)
-        (then_total (on_total address (lists_total nat_cmp_total))
-        (on_total gateway_labels name_total))
+    (then_total (on_total address (lists_total nat_cmp_total))
+    (on_total gateway_labels name_total))
 
 -- ---- gateways
 
@@ -103,17 +103,17 @@ pub gateway_partial_order : IsPartialOrder is_same_gateway gateway_partial_cmp
 gateway_partial_order = record {
   antisymm = λ g h.
       turned_back (gateway_type g == gateway_type h) (gateway_cmp g h) (gateway_cmp h g)
-          (gateway_total.antisymm g h)
+      (gateway_total.antisymm g h)
       ∙ ap (λ (test : Bool). option_map ordering_reverse (where_true test (gateway_cmp h g)))
       (turned (gateway_type g) (gateway_type h));
   trans = λ f g h first second.
       let one = was_true (gateway_type f == gateway_type g) (gateway_cmp f g) Less first in
       let two = was_true (gateway_type g == gateway_type h) (gateway_cmp g h) Less second in
       let same = same_number (gateway_type f) (gateway_type g) one.0
-          ∙ same_number (gateway_type g) (gateway_type h) two.0 in
+      ∙ same_number (gateway_type g) (gateway_type h) two.0 in
       is_true (gateway_type f == gateway_type h) (gateway_cmp f h) Less
-          (equal_number (gateway_type f) (gateway_type h) same)
-          (gateway_total.trans f g h one.1 two.1);
+      (equal_number (gateway_type f) (gateway_type h) same)
+      (gateway_total.trans f g h one.1 two.1);
   matches_eq = λ g h. (
     λ is. is_true (gateway_type g == gateway_type h) (gateway_cmp g h) Equal (same_type g h is)
         ((Equal-is (gateway_cmp g h)).0 (sym (same_gateway_ties g h) ∙ is)),
@@ -124,7 +124,7 @@ gateway_partial_order = record {
       let type = same_number (gateway_type f) (gateway_type g) (same_type f g is) in
       let tied = (Equal-is (gateway_cmp f g)).0 (sym (same_gateway_ties f g) ∙ is) in
       ap₂ (λ (n : ℕ) (order : Ordering). where_true (n == gateway_type h) order) type
-          (gateway_total.congr f g h tied);
+      (gateway_total.congr f g h tied);
 }
 
 -- ---- data
@@ -135,7 +135,7 @@ ipseckey_total =
     (then_total (on_total (λ (d : Ipseckey). gateway_type d.gateway) nat_cmp_total)
     (then_total (on_total (λ (d : Ipseckey). d.algorithm) nat_cmp_total)
     (then_total (on_total (λ (d : Ipseckey). d.gateway) gateway_total)
-        (on_total (λ (d : Ipseckey). d.key) (lists_total nat_cmp_total)))))
+    (on_total (λ (d : Ipseckey). d.key) (lists_total nat_cmp_total)))))
 
 pub ipseckey_equivalence : IsEquivalence is_same_ipseckey
 ipseckey_equivalence =

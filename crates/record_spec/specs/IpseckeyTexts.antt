@@ -51,8 +51,8 @@ scan_ipseckey tokens place =
     scan_then (scan_gateway type tokens after_algorithm) (λ gateway after_gateway.
     scan_then (rest_base64 tokens after_gateway) (λ key end.
     complete_ipseckey
-        (record { precedence = precedence; algorithm = algorithm; gateway = gateway; key = key })
-        tokens end)))))
+    (record { precedence = precedence; algorithm = algorithm; gateway = gateway; key = key })
+    tokens end)))))
 
 -- ---- printed
 
@@ -78,7 +78,7 @@ gateway_document gateway = Token (gateway_text gateway) ∷ []
 abbrev pub type_comment : Gateway → List ℕ
 type_comment gateway =
     number_comment (codes "ipseckey gateway type")
-        (mnemonic_of ipseckey_gateway_types (gateway_type gateway))
+    (mnemonic_of ipseckey_gateway_types (gateway_type gateway))
 
 -- the comment of an algorithm
 abbrev pub algorithm_comment : ℕ → List ℕ

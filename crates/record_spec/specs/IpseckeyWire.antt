@@ -34,8 +34,12 @@ key_read precedence algorithm input gateway =
     if lacks_key algorithm key then Err Short
     else if nat_lt 65535 (input.end - input.pos) then Err Form
     else Ok (record {
-      value = record { precedence = precedence; algorithm = algorithm; gateway = gateway.value;
-          key = key };
+      value = record {
+        precedence = precedence;
+        algorithm = algorithm;
+        gateway = gateway.value;
+        key = key;
+      };
       next = input.end;
     })
 
@@ -47,4 +51,4 @@ ipseckey_read input =
     let algorithm = slice_index input.message (input.pos + 2) in
     if nat_lt input.end (input.pos + 3) then Err Short
     else gateway_read type (record input { pos = input.pos + 3 })
-        >>= key_read precedence algorithm input
+    >>= key_read precedence algorithm input

@@ -44,7 +44,7 @@ gateway_wire (NameGateway labels) = name_wire labels
 abbrev pub ipseckey_wire : Ipseckey → List ℕ
 ipseckey_wire found =
     found.precedence ∷ gateway_type found.gateway ∷ found.algorithm ∷ gateway_wire found.gateway
-        ++ found.key
+    ++ found.key
 
 -- their count
 abbrev pub ipseckey_len : Ipseckey → ℕ

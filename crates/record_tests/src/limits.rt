@@ -1,7 +1,9 @@
 //! The greatest data.
 
-use digest_rdata::{AssociationFields, AssociationData};
-use digest_rdata::{Cds, CdsFields, Sshfp, SshfpFields, Tlsa, TlsaFields, Zonemd, ZonemdFields};
+use digest_rdata::{
+    AssociationData, AssociationFields, Cds, CdsFields, Sshfp, SshfpFields, Tlsa, TlsaFields,
+    Zonemd, ZonemdFields,
+};
 use dns_text::{Entry, EntryScanner, ScanError};
 use key_rdata::{Cdnskey, Openpgpkey, OpenpgpkeyFields};
 use key_registry::{

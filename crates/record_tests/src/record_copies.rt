@@ -1,7 +1,6 @@
 //! Data of each type of record, its copies, and its octets.
 
-use digest_rdata::{AssociationFields, AssociationData};
-use digest_rdata::{Cds, Sshfp, Tlsa, Zonemd};
+use digest_rdata::{AssociationData, AssociationFields, Cds, Sshfp, Tlsa, Zonemd};
 use key_rdata::{Cdnskey, Ipseckey, IpseckeyGateway, Openpgpkey};
 use key_registry::IpseckeyGatewayType;
 use std::alloc::Global;

@@ -1,7 +1,8 @@
 //! Record data in octets, as text and laid out.
 
-use digest_rdata::{AssociationFields, AssociationData};
-use digest_rdata::{Cds, CdsFields, SshfpFields, TlsaFields, ZonemdFields};
+use digest_rdata::{
+    AssociationData, AssociationFields, Cds, CdsFields, SshfpFields, TlsaFields, ZonemdFields,
+};
 use dns_text::{DisplayKind, Entry, EntryScanner, ScanError, Scanner, display_zonefile};
 use key_rdata::{CdnskeyFields, OpenpgpkeyFields};
 use key_registry::{DigestAlgorithm, SecurityAlgorithm};
@@ -63,7 +64,10 @@ const OPENPGPKEY: Row = Row {
 };
 
 /// The data of the one entry of a text.
-fn scanned<F: AssociationFields>(alloc: Global, text: &[u8]) -> Result<AssociationData<F>, ScanError> {
+fn scanned<F: AssociationFields>(
+    alloc: Global,
+    text: &[u8],
+) -> Result<AssociationData<F>, ScanError> {
     let entry = Entry::from_text(text)?;
     let mut scanner = EntryScanner::new(entry);
     let found = AssociationData::scan(alloc, &mut scanner)?;

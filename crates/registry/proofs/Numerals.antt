@@ -28,8 +28,8 @@ pub no_text : (bound : ℕ) (text : List ℕ) → (IsUtf8 text → ⊥) → None
 no_text bound text h =
     let ds = without_leading_plus text in
     elim (is_numeral ds && nat_lt (digits_value 10 ds) bound) as
-        (λ t. (is_numeral ds && nat_lt (digits_value 10 ds) bound) ≡ t
-        → None ≡ cond t (Some (digits_value 10 ds)) None) [
+    (λ t. (is_numeral ds && nat_lt (digits_value 10 ds) bound) ≡ t
+    → None ≡ cond t (Some (digits_value 10 ds)) None) [
       | false ↦ λ e. refl
       | true ↦ λ e. absurd
           (h (numeral_utf8 text

@@ -36,7 +36,7 @@ pub number_of-lower : (rows : List (ℕ × List ℕ)) (a b : List ℕ) → lower
 number_of-lower [] a b e = refl
 number_of-lower (row ∷ rows) a b e =
     let same : is_same row.1 a ≡ is_same row.1 b = ap (λ m. pointwise ◌==◌ (lower_case row.1) m) e
-        in
+    in
     rw same (ap (λ o. cond (is_same row.1 b) (Some row.0) o) (number_of-lower rows a b e))
 
 -- nothing cannot be found
@@ -50,7 +50,7 @@ pub number_of-mnemonic_of : (bound : ℕ) (rows : List (ℕ × List ℕ)) → is
 number_of-mnemonic_of bound [] is n m e = cc
 number_of-mnemonic_of bound (row ∷ rows) is n m e =
     elim (row.0 == n) as (λ t. (row.0 == n) ≡ t → cond t (Some row.1) (mnemonic_of rows n) ≡ Some m
-        → number_of (row ∷ rows) m ≡ Some n) [
+    → number_of (row ∷ rows) m ≡ Some n) [
       | true ↦ λ at e.
           let name : row.1 ≡ m = cc in
           let number : row.0 ≡ n = grind (arith, nat_tests) in
@@ -59,9 +59,9 @@ number_of-mnemonic_of bound (row ∷ rows) is n m e =
       | false ↦ λ at e.
           let first = first_row bound row rows is in
           let found : number_of rows m ≡ Some n =
-              number_of-mnemonic_of bound rows first.others n m e in
+          number_of-mnemonic_of bound rows first.others n m e in
           elim (is_same row.1 m) as
-              (λ t. is_same row.1 m ≡ t → cond t (Some row.0) (number_of rows m) ≡ Some n) [
+          (λ t. is_same row.1 m ≡ t → cond t (Some row.0) (number_of rows m) ≡ Some n) [
             | true ↦ λ same. absurd
                 (taken (number_of rows row.1) n first.new_name
                 (number_of-lower rows row.1 m (same_lower row.1 m same) ∙ found))
@@ -75,8 +75,8 @@ pub mnemonic_of-number_of : (bound : ℕ) (rows : List (ℕ × List ℕ)) → is
 mnemonic_of-number_of bound [] is m n e = cc
 mnemonic_of-number_of bound (row ∷ rows) is m n e =
     elim (is_same row.1 m) as
-        (λ t. is_same row.1 m ≡ t → cond t (Some row.0) (number_of rows m) ≡ Some n
-        → option_map lower_case (mnemonic_of (row ∷ rows) n) ≡ Some (lower_case m)) [
+    (λ t. is_same row.1 m ≡ t → cond t (Some row.0) (number_of rows m) ≡ Some n
+    → option_map lower_case (mnemonic_of (row ∷ rows) n) ≡ Some (lower_case m)) [
       | true ↦ λ same e.
           let number : row.0 ≡ n = cc in
           let at : (row.0 == n) ≡ true = grind (arith, nat_tests) in
@@ -84,16 +84,16 @@ mnemonic_of-number_of bound (row ∷ rows) is m n e =
       | false ↦ λ same e.
           let first = first_row bound row rows is in
           let found : option_map lower_case (mnemonic_of rows n) ≡ Some (lower_case m) =
-              mnemonic_of-number_of bound rows first.others m n e in
+          mnemonic_of-number_of bound rows first.others m n e in
           elim (row.0 == n) as
-              (λ t. (row.0 == n) ≡ t
-              → option_map lower_case (cond t (Some row.1) (mnemonic_of rows n))
-              ≡ Some (lower_case m)) [
+          (λ t. (row.0 == n) ≡ t
+          → option_map lower_case (cond t (Some row.1) (mnemonic_of rows n))
+          ≡ Some (lower_case m)) [
             | true ↦ λ at.
                 let number : row.0 ≡ n = grind (arith, nat_tests) in
                 absurd (mapped (mnemonic_of rows n) (lower_case m)
-                    (subst (λ (k : ℕ). is_none (mnemonic_of rows k) ≡ true) number
-                    first.new_number) found)
+                (subst (λ (k : ℕ). is_none (mnemonic_of rows k) ≡ true) number
+                first.new_number) found)
             | false ↦ λ at. found
           ] refl
     ] refl e
@@ -110,7 +110,7 @@ mnemonic_of-one_line bound [] is n m e = cc
 mnemonic_of-one_line bound (row ∷ rows) is n m e =
     let first = first_row bound row rows is in
     elim (row.0 == n) as (λ t. cond t (Some row.1) (mnemonic_of rows n) ≡ Some m
-        → is_one_line m ≡ true) [
+    → is_one_line m ≡ true) [
       | true ↦ λ e. let name : row.1 ≡ m = cc in rw (← name) first.one_line
       | false ↦ λ e. mnemonic_of-one_line bound rows first.others n m e
     ] e

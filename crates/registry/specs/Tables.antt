@@ -32,7 +32,7 @@ abbrev pub is_table : ℕ → List (ℕ × List ℕ) → Bool
 is_table bound [] = true
 is_table bound (row ∷ rows) =
     nat_lt row.0 bound && is_none (mnemonic_of rows row.0) && is_none
-        (number_of rows row.1) && is_one_line row.1 && is_table bound rows
+    (number_of rows row.1) && is_one_line row.1 && is_table bound rows
 
 -- a mnemonic is read as its number
 abbrev pub MnemonicsRead : List (ℕ × List ℕ) → Type 0

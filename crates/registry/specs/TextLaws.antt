@@ -38,8 +38,8 @@ plain_decimal : (n : ℕ) → n < 2 ^ 64 → without_leading_plus (decimal n) �
 plain_decimal n small =
     let is = (decimal_is_IsNumeral n small).0 in
     without_leading_plus_none (decimal n)
-        (not_in_digits own (decimal n) 43 (own.from (decimal n) is.1)
-        (λ h. omega (arith, h)) 0 is.0)
+    (not_in_digits own (decimal n) 43 (own.from (decimal n) is.1)
+    (λ h. omega (arith, h)) 0 is.0)
 
 -- a printed number is read back
 pub spelled_number-decimal : (bound n : ℕ) → n < bound → n < 2 ^ 64
@@ -47,7 +47,7 @@ pub spelled_number-decimal : (bound n : ℕ) → n < bound → n < 2 ^ 64
 spelled_number-decimal bound n lt small =
     let is = decimal_is_IsNumeral n small in
     ap (numeral_below bound) (plain_decimal n small)
-        ∙ numeral_below-some bound n (decimal n) is.0 is.1 lt
+    ∙ numeral_below-some bound n (decimal n) is.0 is.1 lt
 
 -- the same of a number of one octet
 pub spelled_number-octet : (n : ℕ) → n < 256 → spelled_number 256 (decimal n) ≡ Some n
@@ -61,8 +61,8 @@ read_digits k ds (Ok x) h = let e : x ≡ digits_value 10 ds = h.1
     in sym (numeral_below-some (2 ^ k) x ds h.0.0 (sym e) (rw e h.0.1))
 read_digits k ds (Err e) h =
     elim (is_numeral ds && nat_lt (digits_value 10 ds) (2 ^ k)) as
-        (λ t. (is_numeral ds && nat_lt (digits_value 10 ds) (2 ^ k)) ≡ t
-        → None ≡ cond t (Some (digits_value 10 ds)) None) [
+    (λ t. (is_numeral ds && nat_lt (digits_value 10 ds) (2 ^ k)) ≡ t
+    → None ≡ cond t (Some (digits_value 10 ds)) None) [
       | false ↦ λ e. refl
       | true ↦ λ e.
           let parts = and_parts (is_numeral ds) (nat_lt (digits_value 10 ds) (2 ^ k)) e in

@@ -61,7 +61,7 @@ pub enum BuildValueError {
     /// The value has no items, and its type wants at least one, as `tls-supported-groups`.
     #[error("empty SVCB value")]
     EmptyValue,
-    /// The memory for the value isn't there.
+    /// Allocation for the value failed.
     #[error("want of memory")]
     NoMemory,
 }

@@ -46,7 +46,7 @@ pub trait Integer: Copy {
             ≡ number_at parser.old.message parser.old.pos) }
         ensures takes { TakesOctets parser.old parser.new LEN result };
 
-    /// Appends the octets. Refused for want of memory alone; the target then stays.
+    /// Appends the octets. Fails only with `NoMemory`; the target then stays.
     fn compose(self, target: &mut Vec<u8>) -> Result<(), NoMemory>
         ensures { AppendsOctets target.old.items target.new.items (octets (value self)) result };
 

@@ -131,7 +131,7 @@ pub trait IanaNumber: Copy + Display {
         Ok(Self::from_int(Self::Int::parse(parser)?))
     }
 
-    /// Appends the number's octets. Refused for want of memory alone; the target then stays.
+    /// Appends the number's octets. Fails only with `NoMemory`; the target then stays.
     fn compose(&self, target: &mut Vec<u8>) -> Result<(), NoMemory>
         ensures { AppendsOctets target.old.items target.new.items
             (Self.Int.octets (number self.now)) result }

@@ -49,7 +49,7 @@ pub trait ParseSvcParamValue<'a>: SvcParamValue + Sized + Drop {
 
     /// The value that the octets before the parser begin with, under a key; the parser then stands behind it.
     /// `Ok(None)` exactly where the type does not take the key. Refused as `ShortInput` or `Form` by the fault of the
-    /// octets, and never for want of memory. The parser stays where there is no value.
+    /// octets, and never with `NoMemory`. The parser stays where there is no value.
     ///
     /// No clause says that the parser is still within its data: a parser always is, by its own invariant, which
     /// `Parser::pos` and `Parser::remaining_octets` tell.
@@ -68,7 +68,7 @@ pub trait ComposeSvcParamValue: SvcParamValue {
     fn compose_len(&self) -> u16
         ensures { result ≡ length (octets self.now) };
 
-    /// Appends the value's octets. Refused for want of memory alone; the target then stays.
+    /// Appends the value's octets. Fails only with `NoMemory`; the target then stays.
     fn compose_value(&self, target: &mut Vec<u8>) -> Result<(), NoMemory>
         ensures appends { AppendsOctets target.old.items target.new.items
             (octets self.now) result };

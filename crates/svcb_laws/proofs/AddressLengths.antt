@@ -28,7 +28,7 @@ pub ipv4-length : (octets : List ℕ) → AreOctets octets → length (ipv4_text
 ipv4-length octets are =
     let small = small_octets octets (each_octet octets are) in
     dotted-length (slice_index octets 0) (slice_index octets 1) (slice_index octets 2)
-        (slice_index octets 3) (small 0) (small 1) (small 2) (small 3)
+    (slice_index octets 3) (small 0) (small 1) (small 2) (small 3)
 
 -- ---- segments
 
@@ -67,7 +67,7 @@ hex-length n = omega (
   arith,
   length-drop (net.leading_zero_digits n)
       (digit_char (n / 0x1000) ∷ digit_char (n / 0x100 % 16) ∷ digit_char (n / 0x10 % 16)
-          ∷ digit_char (n % 16) ∷ []),
+      ∷ digit_char (n % 16) ∷ []),
 )
 
 behind-length : (segments : List ℕ)
@@ -76,16 +76,26 @@ behind-length [] = omega arith
 behind-length (segment ∷ segments) =
     let first = hex-length segment in
     let others = behind-length segments in
-    omega (arith, first, others, length-append (net.hex segment)
-        (flat_map (λ t. codes ":" ++ net.hex t) segments))
+    omega (
+      arith,
+      first,
+      others,
+      length-append (net.hex segment)
+          (flat_map (λ t. codes ":" ++ net.hex t) segments),
+    )
 
 groups-length : (segments : List ℕ) → length (net.groups_text segments) ≤ 5 * length segments
 groups-length [] = omega arith
 groups-length (segment ∷ segments) =
     let first = hex-length segment in
     let others = behind-length segments in
-    omega (arith, first, others, length-append (net.hex segment)
-        (flat_map (λ t. codes ":" ++ net.hex t) segments))
+    omega (
+      arith,
+      first,
+      others,
+      length-append (net.hex segment)
+          (flat_map (λ t. codes ":" ++ net.hex t) segments),
+    )
 
 compressed-length : (segments : List ℕ) (run : ℕ × ℕ)
     → length (net.compressed_text segments run) ≤ 10 * length segments + 2
@@ -98,9 +108,9 @@ compressed-length segments run =
     let few_behind = length-drop (run.0 + run.1) segments in
     let whole = groups-length segments in
     elim (nat_lt 1 run.1) as
-        (λ long. length
-        (cond long (net.groups_text before ++ codes "::" ++ net.groups_text behind)
-        (net.groups_text segments)) ≤ 10 * length segments + 2) [
+    (λ long. length
+    (cond long (net.groups_text before ++ codes "::" ++ net.groups_text behind)
+    (net.groups_text segments)) ≤ 10 * length segments + 2) [
       | true ↦ grind (arith, length-append)
       | false ↦ omega arith
     ]
@@ -118,8 +128,8 @@ ipv6-length octets sixteen are =
     let few = segments-length octets in
     let dotted = net.ipv4_text (octets_of (drop 6 segments)) in
     let mapped = ipv4-length (octets_of (drop 6 segments))
-        (segments-octets (drop 6 segments) (segments-drop 6 segments (segments-small octets are)))
-        in
+    (segments-octets (drop 6 segments) (segments-drop 6 segments (segments-small octets are)))
+    in
     let plain = colon_hex-length segments in
     elim (bytes_eq (take 6 segments) (0 ∷ 0 ∷ 0 ∷ 0 ∷ 0 ∷ 0xffff ∷ []))
     as (λ is. length (cond is (codes "::ffff:" ++ dotted) (net.hex_groups_text segments)) ≤ 82) [

@@ -59,7 +59,7 @@ read_item-escaped (c ∷ item) rest =
 
 protocol_item-escaped : (protocol : List ℕ) (rest : Option (List ℕ)) → IsProtocol protocol
     → protocol_item (escaped_item protocol ++ behind_item rest)
-        ≡ Ok (record { item = protocol; rest = rest })
+    ≡ Ok (record { item = protocol; rest = rest })
 protocol_item-escaped protocol rest is =
     let some : 0 < length protocol = is.0 in
     let few : length protocol < 256 = is.1 in
@@ -79,7 +79,7 @@ protocols_within-step count text = refl
 protocols_within-join : (count : ℕ) (protocol : List ℕ) (protocols : List (List ℕ))
     → length (protocol ∷ protocols) ≤ count → Each IsProtocol (protocol ∷ protocols)
     → protocols_within count (join_with_byte 44 (map escaped_item (protocol ∷ protocols)))
-        ≡ Ok (protocol ∷ protocols)
+    ≡ Ok (protocol ∷ protocols)
 protocols_within-join zero protocol protocols enough are = absurd (omega arith)
 protocols_within-join (suc count) protocol [] enough are =
     protocols_within-step count (escaped_item protocol)
@@ -100,18 +100,22 @@ enough_octets : (protocol : List ℕ) (protocols : List (List ℕ))
     ≤ suc (length (join_with_byte 44 (map escaped_item (protocol ∷ protocols))))
 enough_octets protocol [] = omega arith
 enough_octets protocol (next ∷ protocols) =
-    omega (arith, enough_octets next protocols, length-append (escaped_item protocol)
-        (44 ∷ join_with_byte 44 (map escaped_item (next ∷ protocols))))
+    omega (
+      arith,
+      enough_octets next protocols,
+      length-append (escaped_item protocol)
+          (44 ∷ join_with_byte 44 (map escaped_item (next ∷ protocols))),
+    )
 
 -- escaped protocols with commas between them are read back
 pub protocols_of-join : (protocol : List ℕ) (protocols : List (List ℕ))
     → Each IsProtocol (protocol ∷ protocols)
     → protocols_of (join_with_byte 44 (map escaped_item (protocol ∷ protocols)))
-        ≡ Ok (protocol ∷ protocols)
+    ≡ Ok (protocol ∷ protocols)
 protocols_of-join protocol protocols are =
     protocols_within-join
-        (suc (length (join_with_byte 44 (map escaped_item (protocol ∷ protocols))))) protocol
-        protocols (enough_octets protocol protocols) are
+    (suc (length (join_with_byte 44 (map escaped_item (protocol ∷ protocols))))) protocol
+    protocols (enough_octets protocol protocols) are
 
 -- ---- the text
 
@@ -119,7 +123,7 @@ octets-escaped : (item : List ℕ) → AreOctets item → AreOctets (escaped_ite
 octets-escaped [] are = tt
 octets-escaped (c ∷ item) are =
     elim (is_escaped_in_item c) as
-        (λ b. AreOctets (cond b (92 ∷ c ∷ []) (c ∷ []) ++ escaped_item item)) [
+    (λ b. AreOctets (cond b (92 ∷ c ∷ []) (c ∷ []) ++ escaped_item item)) [
       | true ↦ (omega arith, (are.0, octets-escaped item are.1))
       | false ↦ (are.0, octets-escaped item are.1)
     ]
@@ -128,31 +132,33 @@ pub some-escaped : (item : List ℕ) → 0 < length item → 0 < length (escaped
 some-escaped [] some = absurd (omega arith)
 some-escaped (c ∷ item) some =
     elim (is_escaped_in_item c) as
-        (λ b. 0 < length (cond b (92 ∷ c ∷ []) (c ∷ []) ++ escaped_item item)) [
+    (λ b. 0 < length (cond b (92 ∷ c ∷ []) (c ∷ []) ++ escaped_item item)) [
       | true ↦ omega arith
       | false ↦ omega arith
     ]
 
 bare-protocols : (protocols : List (List ℕ)) → Each AreOctets protocols
     → Each (λ protocol. IsBareText (printed_octets (escaped_item protocol))
-        (escaped_item protocol)) protocols
+    (escaped_item protocol)) protocols
 bare-protocols [] are = tt
-bare-protocols (protocol ∷ protocols) are =
-    (bare-octets (escaped_item protocol) (octets-escaped protocol are.0), bare-protocols protocols
-        are.1)
+bare-protocols (protocol ∷ protocols) are = (
+  bare-octets (escaped_item protocol) (octets-escaped protocol are.0),
+  bare-protocols protocols
+      are.1,
+)
 
 pub alpn_again : (protocol : List ℕ) (protocols : List (List ℕ))
     → Each IsProtocol (protocol ∷ protocols) → Each AreOctets (protocol ∷ protocols)
     → length (encode (Alpn (protocol ∷ protocols))) < 65536
-        → IsValueText (value_printed (Alpn (protocol ∷ protocols))) (Alpn (protocol ∷ protocols))
+    → IsValueText (value_printed (Alpn (protocol ∷ protocols))) (Alpn (protocol ∷ protocols))
 alpn_again protocol protocols are octets few =
     let list = join_with_byte 44 (map escaped_item (protocol ∷ protocols)) in
     items_again (codes "alpn") (λ item. printed_octets (escaped_item item)) escaped_item protocol
-        protocols (Alpn (protocol ∷ protocols)) refl
+    protocols (Alpn (protocol ∷ protocols)) refl
     (bare-protocols (protocol ∷ protocols) octets)
     (ap (λ r. r >>= protocols_of >>= λ items. short_value (Alpn items))
     (some_text_again list
-        (some-join (escaped_item protocol) (map escaped_item protocols)
-        (some-escaped protocol are.0.0)))
+    (some-join (escaped_item protocol) (map escaped_item protocols)
+    (some-escaped protocol are.0.0)))
     ∙ ap (λ r. r >>= λ items. short_value (Alpn items)) (protocols_of-join protocol protocols are)
     ∙ short_again (Alpn (protocol ∷ protocols)) few)

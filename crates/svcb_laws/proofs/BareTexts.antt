@@ -26,7 +26,7 @@ use Rattle.svcb_laws.specs.ParamTextLaws.{IsValueText}
 abbrev pub IsBareText : List ℕ → List ℕ → Type 0
 IsBareText text octets =
     (symbols : List Written) × AreBare symbols × (text ≡ flat_map octet_text symbols)
-        × (octets_of (map symbol_of symbols) ≡ octets)
+    × (octets_of (map symbol_of symbols) ≡ octets)
 
 pub bare-append : (t o u p : List ℕ) → IsBareText t o → IsBareText u p
     → IsBareText (t ++ u) (o ++ p)
@@ -56,9 +56,13 @@ bare-plain text are =
 
 -- printed octets
 pub bare-octets : (octets : List ℕ) → AreOctets octets → IsBareText (printed_octets octets) octets
-bare-octets octets are =
-    (written_as is_special octets, AreBare-printed octets are, sym
-        (written-printed is_special octets), octets_of-printed is_special octets)
+bare-octets octets are = (
+  written_as is_special octets,
+  AreBare-printed octets are,
+  sym
+      (written-printed is_special octets),
+  octets_of-printed is_special octets,
+)
 
 -- such a text is wholly a token
 pub bare_text_of : (text octets : List ℕ) (value : Value) → IsBareText text octets
@@ -119,11 +123,11 @@ spells_by : (token key text : List ℕ) → 0 < length token → AreOfKey key �
 spells_by token key text some are front behind =
     let full : (length token == 0) ≡ false = grind (arith, nat_tests) in
     let left : value_text token ≡ text =
-        ap (λ n. drop n token) (add-one (length (key_text token)))
-        ∙ ap (λ (k : List ℕ). drop (suc (length k)) token) front ∙ behind in
+    ap (λ n. drop n token) (add-one (length (key_text token)))
+    ∙ ap (λ (k : List ℕ). drop (suc (length k)) token) front ∙ behind in
     ap (λ b. cond b (Err EmptyParam)
-        (cond (not (list_all is_key_octet (key_text token))) (Err BadKeyChar)
-        (value_behind (key_text token) (value_text token)))) full
+    (cond (not (list_all is_key_octet (key_text token))) (Err BadKeyChar)
+    (value_behind (key_text token) (value_text token)))) full
     ∙ ap (λ (k : List ℕ). cond (not (list_all is_key_octet k)) (Err BadKeyChar)
     (value_behind k (value_text token))) front
     ∙ ap (λ b. cond (not b) (Err BadKeyChar) (value_behind key (value_text token))) are

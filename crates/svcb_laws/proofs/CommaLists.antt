@@ -17,7 +17,7 @@ comma_pieces-item : (item rest : List ℕ) → HasNoComma item
 comma_pieces-item [] rest none = refl
 comma_pieces-item (c ∷ item) rest none =
     ap (λ b. cond b ([] ∷ comma_pieces (item ++ 44 ∷ rest))
-        (onto_piece c (comma_pieces (item ++ 44 ∷ rest)))) (no_comma c none.0)
+    (onto_piece c (comma_pieces (item ++ 44 ∷ rest)))) (no_comma c none.0)
     ∙ ap (onto_piece c) (comma_pieces-item item rest none.1)
 
 comma_pieces-last : (item : List ℕ) → HasNoComma item → comma_pieces item ≡ item ∷ []
@@ -65,7 +65,7 @@ some_pieces : (text : List ℕ) → 0 < length (comma_pieces text)
 some_pieces [] = omega arith
 some_pieces (c ∷ text) =
     elim (c == 44) as
-        (λ b. 0 < length (cond b ([] ∷ comma_pieces text) (onto_piece c (comma_pieces text)))) [
+    (λ b. 0 < length (cond b ([] ∷ comma_pieces text) (onto_piece c (comma_pieces text)))) [
       | true ↦ omega arith
       | false ↦ onto_piece-some c (comma_pieces text)
     ]
@@ -86,15 +86,19 @@ pieces-exact (c ∷ text) =
     ≡ c ∷ text)
     × Each HasNoComma (cond b ([] ∷ comma_pieces text) (onto_piece c (comma_pieces text)))) [
       | true ↦ λ is.
-          let comma : c ≡ 44 = grind (arith, nat_tests) in
-          (behind_comma (comma_pieces text) (some_pieces text)
-              ∙ ap (λ (tail : List ℕ). 44 ∷ tail) behind.0
-              ∙ ap (λ d. d ∷ text) (sym comma), (tt, behind.1))
+          let comma : c ≡ 44 = grind (arith, nat_tests) in (
+            behind_comma (comma_pieces text) (some_pieces text)
+                ∙ ap (λ (tail : List ℕ). 44 ∷ tail) behind.0
+                ∙ ap (λ d. d ∷ text) (sym comma),
+            (tt, behind.1),
+          )
       | false ↦ λ is.
-          let other : c ≢ 44 = grind (arith, nat_tests) in
-          (onto_piece-join c (comma_pieces text)
-              ∙ ap (λ (tail : List ℕ). c ∷ tail) behind.0, onto_piece-no_comma c
-              (comma_pieces text) other behind.1)
+          let other : c ≢ 44 = grind (arith, nat_tests) in (
+            onto_piece-join c (comma_pieces text)
+                ∙ ap (λ (tail : List ℕ). c ∷ tail) behind.0,
+            onto_piece-no_comma c
+                (comma_pieces text) other behind.1,
+          )
     ] refl
 
 comma_items-are : (text : List ℕ) → Each HasNoComma (comma_items text)
@@ -110,8 +114,8 @@ comma_items-of : (text : List ℕ) (items : List (List ℕ)) → Each HasNoComma
 comma_items-of text [] none joined some = ap comma_items joined
 comma_items-of text (item ∷ items) none joined some =
     ap comma_items joined
-        ∙ comma_items-join item items none
-        (subst (λ (t : List ℕ). 0 < length t) joined (some (omega arith)))
+    ∙ comma_items-join item items none
+    (subst (λ (t : List ℕ). 0 < length t) joined (some (omega arith)))
 
 pub comma_items_exact : CommaItemsExact
 comma_items_exact text items = (

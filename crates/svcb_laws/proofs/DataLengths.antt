@@ -51,7 +51,7 @@ params-length pairs is are =
     let texts = texts-length pairs pairs 0 is are in
     let joined = join-length 32 (pair_texts pairs) in
     subst (λ octets. length (params_printed pairs) ≤ 11 * length octets)
-        (sym (wire-pairs pairs is)) (omega arith)
+    (sym (wire-pairs pairs is)) (omega arith)
 
 -- ---- the data
 

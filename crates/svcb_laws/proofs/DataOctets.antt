@@ -35,9 +35,11 @@ pub values_octets : (pairs : Pairs) → AreOctets (pairs_wire pairs) → HaveOct
 values_octets [] are = tt
 values_octets (pair ∷ pairs) are =
     let parts = octets_parts ((be2 pair.0 ++ be2 (length pair.1)) ++ pair.1) (pairs_wire pairs) are
-        in
-    ((octets_parts (be2 pair.0 ++ be2 (length pair.1)) pair.1 parts.0).1, values_octets pairs
-        parts.1)
+    in (
+      (octets_parts (be2 pair.0 ++ be2 (length pair.1)) pair.1 parts.0).1,
+      values_octets pairs
+          parts.1,
+    )
 
 -- a record whose octets are octets
 pub is_data : (found : Record) → IsRecord found → AreOctets (name_wire found.labels)

@@ -30,7 +30,7 @@ text_of text found tokens is are has = record {
   some = (tokens, has);
   scanned = λ others have. subst (λ ts. AreTokensOf ts found)
       (sym (has_tokens text tokens has).1 ∙ (has_tokens text others have).1)
-          (data_again found tokens is are);
+      (data_again found tokens is are);
 }
 
 -- the tokens of such a text, by themselves
@@ -51,11 +51,11 @@ text_tokens found (priority ∷ target ∷ tokens) are =
     let name = printed_name_with_dot found.labels in
     let behind = token_on 0 (32 ∷ parameters) tokens name target are.1.0
     (blank_on 0 parameters tokens 32 refl
-        (has_tokens-spaced (pair_texts found.pairs) tokens are.1.1)) in
+    (has_tokens-spaced (pair_texts found.pairs) tokens are.1.1)) in
     subst (λ text. HasTokens text (priority ∷ target ∷ tokens))
-        (sym (append_assoc (decimal found.priority) (32 ∷ name) (32 ∷ parameters)))
+    (sym (append_assoc (decimal found.priority) (32 ∷ name) (32 ∷ parameters)))
     (token_on 0 (32 ∷ name ++ 32 ∷ parameters) (target ∷ tokens)
-        (decimal found.priority) priority are.0
+    (decimal found.priority) priority are.0
     (blank_on 0 (name ++ 32 ∷ parameters) (target ∷ tokens) 32 refl behind))
 
 pub text_again : DataTextReadBack
@@ -83,7 +83,7 @@ not_empty token (piece ∷ parts, are, text_is, is) = absurd are
 token_first : (text : List ℕ) (token : List Symbol) (items : List Item)
     (tokens : List (List Symbol)) → IsTokenText text token
     → layouts.AreTokenTexts items tokens
-        → layouts.AreTokenTexts (Token text ∷ items) (token ∷ tokens)
+    → layouts.AreTokenTexts (Token text ∷ items) (token ∷ tokens)
 token_first [] token items tokens is are = absurd (not_empty token is)
 token_first (c ∷ text) token items tokens is are = (is, are)
 
@@ -91,13 +91,13 @@ token_first (c ∷ text) token items tokens is are = (is, are)
 texts_and_ends : (texts : List (List ℕ)) (tokens : List (List Symbol))
     → AreTextsOfTokens texts tokens
     → layouts.AreTokenTexts ((map (λ text. Token text) texts ++ BlockEnd ∷ []) ++ BlockEnd ∷ [])
-        tokens
+    tokens
 texts_and_ends [] [] are = tt
 texts_and_ends [] (token ∷ tokens) are = absurd are
 texts_and_ends (text ∷ texts) [] are = absurd are
 texts_and_ends (text ∷ texts) (token ∷ tokens) are =
     token_first text token ((map (λ t. Token t) texts ++ BlockEnd ∷ []) ++ BlockEnd ∷ []) tokens
-        are.0 (texts_and_ends texts tokens are.1)
+    are.0 (texts_and_ends texts tokens are.1)
 
 document_tokens : (found : Record) (tokens : List (List Symbol))
     → AreTextsOfTokens (data_texts found) tokens
@@ -108,9 +108,9 @@ document_tokens found (priority ∷ target ∷ tokens) are =
     let rest = params_document found.pairs ++ BlockEnd ∷ [] in
     token_first (decimal found.priority) priority
     (Comment (codes "priority") ∷ Token (printed_name_with_dot found.labels)
-        ∷ Comment (codes "target") ∷ rest) (target ∷ tokens) are.0
+    ∷ Comment (codes "target") ∷ rest) (target ∷ tokens) are.0
     (token_first (printed_name_with_dot found.labels) target
-        (Comment (codes "target") ∷ rest) tokens are.1.0
+    (Comment (codes "target") ∷ rest) tokens are.1.0
     (texts_and_ends (pair_texts found.pairs) tokens are.1.1))
 
 pub layout_again : DataLayoutReadBack
@@ -118,4 +118,4 @@ layout_again kind found is =
     let tokens = tokens_of_data found is in
     text_of (laid_out_text kind (svcb_document found)) found tokens.0 is tokens.1
     (layout_splits kind (svcb_document found) tokens.0 (document-svcb found)
-        (document_tokens found tokens.0 tokens.1))
+    (document_tokens found tokens.0 tokens.1))

@@ -36,10 +36,10 @@ found_at (other ∷ front) token rest = found_at front token rest
 pub one-found : {V : Type 0} (meaning : List Symbol → Result V ScanError)
     (front : List (List Symbol)) (token : List Symbol) (rest : List (List Symbol)) (x : V)
     → meaning token ≡ Ok x → one meaning (front ++ token ∷ rest) (length front)
-        ≡ done x (length front + 1)
+    ≡ done x (length front + 1)
 one-found meaning front token rest x means =
     ap (λ found. at_token (length front)
-        (elim found [ None ↦ Err EndOfEntry | Some t ↦ meaning t ])) (found_at front token rest)
+    (elim found [ None ↦ Err EndOfEntry | Some t ↦ meaning t ])) (found_at front token rest)
     ∙ ap (at_token (length front)) means
 
 -- the same, where more is scanned behind it
@@ -50,7 +50,7 @@ then-found : {V W : Type 0} (meaning : List Symbol → Result V ScanError) (next
     ≡ next x (length (front ++ token ∷ []))
 then-found meaning next front token rest x means =
     ap (λ scanned. scan_then scanned next) (one-found meaning front token rest x means)
-        ∙ ap (next x) (sym (length-append front (token ∷ [])))
+    ∙ ap (next x) (sym (length-append front (token ∷ [])))
 
 -- ---- the texts of a record
 
@@ -64,7 +64,7 @@ number-means : (n : ℕ) (token : List Symbol) → n < 65536 → IsTokenText (de
 number-means n token below is =
     let own = decimal_again n (omega arith) in
     let octets : octets_of token ≡ decimal n =
-        ap octets_of (one_token (decimal n) token own.0 is own.1) ∙ own.2 in
+    ap octets_of (one_token (decimal n) token own.0 is own.1) ∙ own.2 in
     ap (λ text. ok_or (spelled_number (2 ^ 16) text) BadNumber) octets
     ∙ ap (λ number. ok_or number BadNumber) (spelled_number-decimal (2 ^ 16) n below (omega arith))
 
@@ -73,14 +73,14 @@ name-means : (found : Record) (token : List Symbol) → IsRecordOfOctets found
 name-means found token is text =
     let own = name_again found.labels is.is_record.labels is.labels in
     ap (λ labels. ok_or labels BadName)
-        (ap name_of (one_token (printed_name_with_dot found.labels) token own.0 text own.1) ∙ own.2)
+    (ap name_of (one_token (printed_name_with_dot found.labels) token own.0 text own.1) ∙ own.2)
 
 fits : (found : Record) (end : ℕ) → IsRecordOfOctets found
     → within_record_limit found end ≡ done found end
 fits found end is =
     let below = is.is_record.fits in
     let short : nat_lt 65535 (length (rdata found.priority found.labels found.pairs)) ≡ false =
-        grind (arith, nat_tests) in
+    grind (arith, nat_tests) in
     ap (λ long. cond long (refused LongRecord end) (done found end)) short
 
 -- a record's texts have tokens
@@ -97,8 +97,8 @@ tokens_of_data found is =
 abbrev behind_target : List (List Symbol) → ℕ → List (List ℕ) → ℕ → Scanned Record
 behind_target tokens priority labels place =
     scan_then (params tokens place)
-        (λ pairs end. within_record_limit
-        (record { priority = priority; labels = labels; pairs = pairs }) end)
+    (λ pairs end. within_record_limit
+    (record { priority = priority; labels = labels; pairs = pairs }) end)
 
 abbrev behind_priority : List (List Symbol) → ℕ → ℕ → Scanned Record
 behind_priority tokens priority place =
@@ -114,14 +114,14 @@ data_again found (priority ∷ target ∷ tokens) is are front =
     let one_taken = front ++ priority ∷ [] in
     let two_taken = one_taken ++ target ∷ [] in
     let behind_one : all ≡ one_taken ++ target ∷ tokens =
-        sym (append_assoc front (priority ∷ []) (target ∷ tokens)) in
+    sym (append_assoc front (priority ∷ []) (target ∷ tokens)) in
     let behind_two : all ≡ two_taken ++ tokens =
-        behind_one ∙ sym (append_assoc one_taken (target ∷ []) tokens) in
+    behind_one ∙ sym (append_assoc one_taken (target ∷ []) tokens) in
     let count : length two_taken + length tokens
-        ≡ length front + length (priority ∷ target ∷ tokens) =
+    ≡ length front + length (priority ∷ target ∷ tokens) =
     omega (arith, length-append front (priority ∷ []), length-append one_taken (target ∷ [])) in
     then-found (by_octets (spelled_number (2 ^ 16)) BadNumber) (behind_priority all) front priority
-        (target ∷ tokens) found.priority
+    (target ∷ tokens) found.priority
     (number-means found.priority priority is.is_record.priority are.0)
     ∙ ap (λ left. scan_then (name left (length one_taken)) (behind_target all found.priority))
     behind_one

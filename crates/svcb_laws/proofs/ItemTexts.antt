@@ -73,7 +73,7 @@ item-dotted_text a b c d fit =
     dotted (((((decimal a ++ 46 ∷ []) ++ decimal b) ++ 46 ∷ []) ++ decimal c)) (decimal d)
     (dotted ((decimal a ++ 46 ∷ []) ++ decimal b) (decimal c)
     (dotted (decimal a) (decimal b) (item-decimal a (omega (arith, fit.0)))
-        (item-decimal b (omega (arith, fit.1))))
+    (item-decimal b (omega (arith, fit.1))))
     (item-decimal c (omega (arith, fit.2))))
     (item-decimal d (omega (arith, fit.3)))
 
@@ -93,7 +93,7 @@ item-groups ipv4 lead text [] of_item is = subst AreOfItem (sym is) tt
 item-groups ipv4 lead text (s ∷ segments) of_item (inl (group, rest, is, is_group, more)) =
     subst AreOfItem (sym is) (item-append (lead ++ group) rest
     (item-append lead group of_item (item-digits 16 group (omega arith) is_group.0.0.1))
-        (item-groups ipv4 (codes ":") rest segments (refl, tt) more))
+    (item-groups ipv4 (codes ":") rest segments (refl, tt) more))
 item-groups ipv4 lead text (s ∷ segments) of_item
     (inr (last, octets, allowed, is, is_dotted, value)) =
     subst AreOfItem (sym is) (item-append lead last of_item (item-dotted last octets is_dotted).1)
@@ -110,18 +110,25 @@ some-groups ipv4 lead text (s ∷ segments) some (inr (last, octets, allowed, is
     omega (arith, ap length is, length-append lead last)
 
 item-colon_hex : (text segments : List ℕ) → IsColonHex text segments → IsItemText text
-item-colon_hex text segments (inl (groups, eight)) =
-    (some-groups true [] text segments (omega arith) groups, item-groups true
-        [] text segments tt groups)
+item-colon_hex text segments (inl (groups, eight)) = (
+  some-groups true [] text segments (omega arith) groups,
+  item-groups true
+      [] text segments tt groups,
+)
 item-colon_hex text segments (inr elided) = (
-  omega (arith, ap length elided.spelled, length-append
-      (elided.head_text ++ codes "::") elided.tail_text, length-append elided.head_text
-      (codes "::")),
+  omega (
+    arith,
+    ap length elided.spelled,
+    length-append
+        (elided.head_text ++ codes "::") elided.tail_text,
+    length-append elided.head_text
+        (codes "::"),
+  ),
   subst AreOfItem (sym elided.spelled)
       (item-append (elided.head_text ++ codes "::") elided.tail_text
       (item-append elided.head_text (codes "::")
-          (item-groups false [] elided.head_text elided.head tt elided.head_groups)
-          (refl, (refl, tt)))
+      (item-groups false [] elided.head_text elided.head tt elided.head_groups)
+      (refl, (refl, tt)))
       (item-groups true [] elided.tail_text elided.tail tt elided.tail_groups)),
 )
 
@@ -159,10 +166,10 @@ item-unwrap [] key are small =
     (omega arith, (refl, (refl, (refl, digits.1))))
 item-unwrap (row ∷ rows) key are small =
     let both = and_parts (is_key_text row.1) (list_all (λ (r : ℕ × List ℕ). is_key_text r.1) rows)
-        are in
+    are in
     elim (row.0 == key) as
-        (λ b. IsItemText
-        (unwrap_or (cond b (Some row.1) (mnemonic_of rows key)) (codes "key" ++ decimal key))) [
+    (λ b. IsItemText
+    (unwrap_or (cond b (Some row.1) (mnemonic_of rows key)) (codes "key" ++ decimal key))) [
       | true ↦ item-key_text row.1 both.0
       | false ↦ item-unwrap rows key both.1 small
     ]

@@ -22,9 +22,11 @@ spelled-ended pieces = flat_map-append piece_octets pieces (LineEnd ∷ [])
 comment-line : (text : List ℕ) (pieces : List Piece)
     → IsComment text (flat_map piece_octets pieces ++ [])
     → IsComment text (flat_map piece_octets (ended pieces) ++ [])
-comment-line text pieces is =
-    (is.0, subst (λ following. EndsLine (following ++ [])) (sym (spelled-ended pieces))
-        (EndsLine-line (flat_map piece_octets pieces) is.1))
+comment-line text pieces is = (
+  is.0,
+  subst (λ following. EndsLine (following ++ [])) (sym (spelled-ended pieces))
+      (EndsLine-line (flat_map piece_octets pieces) is.1),
+)
 
 tail-line : (pieces : List Piece) → IsTailRow (Unit {0}) [] pieces
     → IsTailRow (Unit {0}) [] (ended pieces)

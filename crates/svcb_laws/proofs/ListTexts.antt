@@ -24,9 +24,9 @@ bare-join text octets [] are = bare-plain [] tt
 bare-join text octets (item ∷ []) are = are.0
 bare-join text octets (item ∷ next ∷ items) are =
     bare-append (text item) (octets item) (44 ∷ join_with_byte 44 (map text (next ∷ items)))
-        (44 ∷ join_with_byte 44 (map octets (next ∷ items))) are.0
+    (44 ∷ join_with_byte 44 (map octets (next ∷ items))) are.0
     (bare-append (44 ∷ []) (44 ∷ []) (join_with_byte 44 (map text (next ∷ items)))
-        (join_with_byte 44 (map octets (next ∷ items)))
+    (join_with_byte 44 (map octets (next ∷ items)))
     (bare-plain (44 ∷ []) (refl, tt)) (bare-join text octets (next ∷ items) are.1))
 
 -- a key and items are wholly a token, which spells what stands behind the key
@@ -41,7 +41,7 @@ items_again key text octets item items value are bare spelled =
     bare_text_of (key ++ 61 ∷ front) (key ++ 61 ∷ have) value
     (bare-append key key (61 ∷ front) (61 ∷ have) (bare-plain key (ArePlain-key key are))
     (bare-append (61 ∷ []) (61 ∷ []) front have (bare-plain (61 ∷ []) (refl, tt))
-        (bare-join text octets (item ∷ items) bare)))
+    (bare-join text octets (item ∷ items) bare)))
     (spells-behind key have are ∙ spelled)
 
 -- ---- items between commas
@@ -75,7 +75,7 @@ IsReadBack rule print before (item ∷ items) =
 read_items_again : {A : Type 0} (rule : List A → List ℕ → Result A ScanError) (print : A → List ℕ)
     (before items : List A)
     → IsReadBack rule print before items
-        → read_items rule before (map print items) ≡ Ok (before ++ items)
+    → read_items rule before (map print items) ≡ Ok (before ++ items)
 read_items_again rule print before [] back = ap Ok (sym (append-nil before))
 read_items_again rule print before (item ∷ items) back =
     ap (λ r. r >>= λ x. read_items rule (before ++ x ∷ []) (map print items)) back.0
@@ -92,16 +92,16 @@ plain_items print (item ∷ items) are =
 pub list_again : {A : Type 0} (rule : List A → List ℕ → Result A ScanError) (print : A → List ℕ)
     (make : List A → Value) (item : A) (items : List A)
     → Each (λ item. IsItemText (print item)) (item ∷ items)
-        → IsReadBack rule print [] (item ∷ items) → length (encode (make (item ∷ items))) < 65536
+    → IsReadBack rule print [] (item ∷ items) → length (encode (make (item ∷ items))) < 65536
     → (some_text (join_with_byte 44 (map print (item ∷ items)))
     >>= λ list. read_items rule [] (comma_items list) >>= λ xs. short_value (make xs))
     ≡ Ok (make (item ∷ items))
 list_again rule print make item items are back few =
     let list = join_with_byte 44 (map print (item ∷ items)) in
     let plain : IsPlainList list (map print (item ∷ items)) =
-        (omega arith, plain_items print (item ∷ items) are, refl) in
+    (omega arith, plain_items print (item ∷ items) are, refl) in
     ap (λ r. r >>= λ list. read_items rule [] (comma_items list) >>= λ xs. short_value (make xs))
-        (some_text_again list (some_list list (map print (item ∷ items)) plain))
+    (some_text_again list (some_list list (map print (item ∷ items)) plain))
     ∙ ap (λ list. read_items rule [] list >>= λ xs. short_value (make xs))
     (items-split list (map print (item ∷ items)) plain)
     ∙ ap (λ r. r >>= λ xs. short_value (make xs))

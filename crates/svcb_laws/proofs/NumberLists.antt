@@ -45,7 +45,7 @@ new_apart : (before : List ℕ) (n : ℕ) (numbers : List ℕ) → AreNew (befor
 new_apart before n [] new = (tt, refl)
 new_apart before n (m ∷ numbers) new =
     let here = or_parts (is_in before m) (is_in (n ∷ []) m)
-        (sym (list_any-append (λ k. k == m) before (n ∷ [])) ∙ new.0) in
+    (sym (list_any-append (λ k. k == m) before (n ∷ [])) ∙ new.0) in
     let other = or_parts (n == m) false here.1 in
     let rest = new_apart before n numbers new.1 in
     ((here.0, rest.0), or_false (m == n) (is_in numbers n) (same_test n m other.0) rest.1)
@@ -61,7 +61,7 @@ pub new_item-ok : (before : List ℕ) (n m : ℕ) → new_item before n ≡ Ok m
     → (n ≡ m) × (is_in before n ≡ false)
 new_item-ok before n m =
     elim (is_in before n) as (λ b. is_in before n ≡ b → cond b (Err DuplicateItem) (Ok n) ≡ Ok m
-        → (n ≡ m) × (is_in before n ≡ false)) [
+    → (n ≡ m) × (is_in before n ≡ false)) [
       | true ↦ λ twice is. absurd cc
       | false ↦ λ new is. (cc, new)
     ] refl
@@ -75,9 +75,12 @@ all_new-apart : (P : ℕ → Type 0) (before numbers : List ℕ) → AllNew (IsN
 all_new-apart P before [] new = (tt, tt, refl)
 all_new-apart P before (n ∷ numbers) new =
     let rest = all_new-apart P (before ++ n ∷ []) numbers new.1 in
-    let apart = new_apart before n numbers rest.1 in
-    ((new.0.0, rest.0), (new.0.1, apart.0), and_from (not (is_in numbers n)) (are_distinct numbers)
-        (ap not apart.1) rest.2)
+    let apart = new_apart before n numbers rest.1 in (
+      (new.0.0, rest.0),
+      (new.0.1, apart.0),
+      and_from (not (is_in numbers n)) (are_distinct numbers)
+          (ap not apart.1) rest.2,
+    )
 
 -- numbers that are each new to those before them are distinct
 pub all_new-distinct : (P : ℕ → Type 0) (numbers : List ℕ) → AllNew (IsNew P) [] numbers
@@ -89,9 +92,11 @@ apart-all_new : (P : ℕ → Type 0) (before numbers : List ℕ) → Each P numb
 apart-all_new P before [] are new distinct = tt
 apart-all_new P before (n ∷ numbers) are new distinct =
     let parts = and_parts (not (is_in numbers n)) (are_distinct numbers) distinct in
-    let other = not_true (is_in numbers n) parts.0 in
-    ((are.0, new.0), apart-all_new P (before ++ n ∷ []) numbers are.1
-        (new_behind before n numbers new.1 other) parts.1)
+    let other = not_true (is_in numbers n) parts.0 in (
+      (are.0, new.0),
+      apart-all_new P (before ++ n ∷ []) numbers are.1
+          (new_behind before n numbers new.1 other) parts.1,
+    )
 
 -- and distinct numbers are
 pub distinct-all_new : (P : ℕ → Type 0) (numbers : List ℕ) → Each P numbers

@@ -53,7 +53,7 @@ generic_name : (key : ℕ) → key < 65536 → IsOpaqueName key (codes "key" ++ 
 generic_name key small =
     let is = decimal_is_IsNumeral key (omega arith) in
     let found : generic_key (codes "key" ++ decimal key) ≡ Some key =
-        spelled_number-decimal 65536 key small (omega arith) in
+    spelled_number-decimal 65536 key small (omega arith) in
     record {
       some = omega arith;
       of_key = digits-of_key (decimal key) is.0.1;
@@ -92,7 +92,7 @@ key_name-opaque key small above = elim (cases_lt 12 key) [
       | inr not_eleven ↦
           let twelve : 12 ≡ key = omega arith in
           subst (λ (k : ℕ). IsOpaqueName k (key_name k)) twelve
-              (record { some = omega arith; of_key = refl; reads = λ text. refl })
+          (record { some = omega arith; of_key = refl; reads = λ text. refl })
     ]
   ]
 ]
@@ -102,11 +102,11 @@ opaque_name key small = elim (cases_lt key 10) [
   | inl few ↦
       let typed : nat_lt key 10 ≡ true = grind (arith, nat_tests) in
       subst (λ b. IsOpaqueName key (cond b (codes "key" ++ decimal key) (key_name key)))
-          (sym typed) (generic_name key small)
+      (sym typed) (generic_name key small)
   | inr many ↦
       let other : nat_lt key 10 ≡ false = grind (arith, nat_tests) in
       subst (λ b. IsOpaqueName key (cond b (codes "key" ++ decimal key) (key_name key)))
-          (sym other) (key_name-opaque key small (omega arith))
+      (sym other) (key_name-opaque key small (omega arith))
 ]
 
 -- ---- a key with a text
@@ -117,7 +117,7 @@ pub with_text_again : (key text octets : List ℕ) (value : Value) → 0 < lengt
     → value_behind key octets ≡ Ok value → IsValueText (with_text key text) value
 with_text_again key [] octets value some are bare spelled =
     bare_text_of key key value (bare-plain key (ArePlain-key key are))
-        (spells-key key some are ∙ ap (value_behind key) (no_octets octets bare) ∙ spelled)
+    (spells-key key some are ∙ ap (value_behind key) (no_octets octets bare) ∙ spelled)
   where
     no_octets : (octets : List ℕ) → IsBareText [] octets → [] ≡ octets
     no_octets octets ([], are, is, have) = have
@@ -139,5 +139,5 @@ pub opaque_again : (key : ℕ) (octets : List ℕ) → key < 65536 → AreOctets
 opaque_again key octets small are few =
     let name = opaque_name key small in
     with_text_again (opaque_key_name key) (printed_octets octets) octets
-        (Unknown key octets) name.some name.of_key (bare-octets octets are)
+    (Unknown key octets) name.some name.of_key (bare-octets octets are)
     (name.reads octets ∙ short_again (Unknown key octets) few)

@@ -38,9 +38,9 @@ pub pair_value_again : (pairs : Pairs) (pair : Pair) → IsPairOfMap pair
     → IsPairText (pair_printed pairs pair) pair (pair_value pairs pair)
 pair_value_again pairs pair is =
     let found : IsIn pair.0 pair.1 (value_in pair.0 pair.1) =
-        values_in_octets pair.0 pair.1 is.key is.few (each_octet pair.1 is.octets) in
+    values_in_octets pair.0 pair.1 is.key is.few (each_octet pair.1 is.octets) in
     elim (has_own_text pairs (value_in pair.0 pair.1)) as
-        (λ own. has_own_text pairs (value_in pair.0 pair.1) ≡ own
+    (λ own. has_own_text pairs (value_in pair.0 pair.1) ≡ own
     → IsPairText (cond own (value_printed (value_in pair.0 pair.1)) (opaque_text pair.0 pair.1))
     pair (cond own (value_in pair.0 pair.1) (Unknown pair.0 pair.1))) [
       | true ↦ λ own. record {

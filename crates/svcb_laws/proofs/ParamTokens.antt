@@ -71,7 +71,7 @@ pub params-spelled : (front tokens : List (List Symbol)) (values : List Value)
     → params (front ++ tokens) (length front) ≡ done (map_of values) (length front + length tokens)
 params-spelled front tokens values spelled new there =
     ap (λ (left : List (List Symbol)). scan_then (values_at [] left (length front)) made_of)
-        (drop-append_seam front tokens)
+    (drop-append_seam front tokens)
     ∙ ap (λ scanned. scan_then scanned made_of)
     (values_at-spelled [] tokens values (length front) spelled new)
     ∙ ap (λ b. cond b (done (map_of values) (length front + length tokens))
@@ -87,8 +87,8 @@ pub one_token : (text : List ℕ) (a b : List Symbol) → IsTokenText text a →
     → a ≡ b
 one_token text a b is_a is_b =
     first_of a b
-        (sym (has_tokens text (a ∷ []) (has_token text a is_a)).1
-        ∙ (has_tokens text (b ∷ []) (has_token text b is_b)).1)
+    (sym (has_tokens text (a ∷ []) (has_token text a is_a)).1
+    ∙ (has_tokens text (b ∷ []) (has_token text b is_b)).1)
 
 -- ---- the values of a map's pairs
 
@@ -105,15 +105,17 @@ module _ (pairs : Pairs) where
   spelled_values : (least : ℕ) (found : Pairs) (tokens : List (List Symbol)) → Ascends least found
       → HaveOctets found
       → AreTextsOfTokens (map (pair_printed pairs) found) tokens
-          → AreSpelled tokens (values_of found)
+      → AreSpelled tokens (values_of found)
   spelled_values least [] [] ascends octets are = tt
   spelled_values least [] (token ∷ tokens) ascends octets are = absurd are
   spelled_values least (pair ∷ found) [] ascends octets are = absurd are
   spelled_values least (pair ∷ found) (token ∷ tokens) ascends octets are =
       let back = (pair_of least pair found ascends octets).spelled in
-      let same : token ≡ back.0 = one_token (pair_printed pairs pair) token back.0 are.0 back.1 in
-      (ap (λ (t : List Symbol). spells (octets_of t)) same
-          ∙ back.2, spelled_values (pair.0 + 1) found tokens ascends.3 octets.1 are.1)
+      let same : token ≡ back.0 = one_token (pair_printed pairs pair) token back.0 are.0 back.1 in (
+        ap (λ (t : List Symbol). spells (octets_of t)) same
+            ∙ back.2,
+        spelled_values (pair.0 + 1) found tokens ascends.3 octets.1 are.1,
+      )
 
   -- all keys are below a number
   abbrev AreBelow : ℕ → List Value → Type 0
@@ -127,7 +129,7 @@ module _ (pairs : Pairs) where
   not_there key least [] below above = refl
   not_there key least (value ∷ before) below above =
       ap (λ b. b || has_key before key) (not_key (key_of value) key least below.0 above)
-          ∙ not_there key least before below.1 above
+      ∙ not_there key least before below.1 above
 
   below_more : (value : Value) (least : ℕ) (before : List Value) → AreBelow least before
       → least ≤ key_of value → AreBelow (key_of value + 1) (before ++ value ∷ [])
@@ -146,7 +148,7 @@ module _ (pairs : Pairs) where
         not_there (key_of value) least before below above,
         new_values (pair.0 + 1) (before ++ value ∷ []) found ascends.3 octets.1
             (subst (λ n. AreBelow (n + 1) (before ++ value ∷ [])) is
-                (below_more value least before below above)),
+            (below_more value least before below above)),
       )
 
   has_key-found : (least : ℕ) (found : Pairs) (key : ℕ) → Ascends least found → HaveOctets found
@@ -154,7 +156,7 @@ module _ (pairs : Pairs) where
   has_key-found least [] key ascends octets = refl
   has_key-found least (pair ∷ found) key ascends octets =
       ap₂ (λ n b. (n == key) || b) (pair_of least pair found ascends octets).key
-          (has_key-found (pair.0 + 1) found key ascends.3 octets.1)
+      (has_key-found (pair.0 + 1) found key ascends.3 octets.1)
 
   -- the listed keys of a value that has a text of its own are there
   own_there : (value : Value) → has_own_text pairs value ≡ true
@@ -176,7 +178,7 @@ module _ (pairs : Pairs) where
       ≡ true
   pair_there pair =
       elim (has_own_text pairs (value_in pair.0 pair.1)) as
-          (λ own. has_own_text pairs (value_in pair.0 pair.1) ≡ own
+      (λ own. has_own_text pairs (value_in pair.0 pair.1) ≡ own
       → list_all (holds_key pairs)
       (mandatory_keys (cond own (value_in pair.0 pair.1) (Unknown pair.0 pair.1))) ≡ true) [
         | true ↦ λ own. own_there (value_in pair.0 pair.1) own
@@ -191,16 +193,16 @@ module _ (pairs : Pairs) where
   keys_there values (key ∷ keys) same there =
       let both = and_parts (holds_key pairs key) (list_all (holds_key pairs) keys) there in
       ap (λ b. b && list_all (has_key values) keys) (same key ∙ both.0)
-          ∙ keys_there values keys same both.1
+      ∙ keys_there values keys same both.1
 
   all_there : (values : List Value) (found : Pairs)
       → ((key : ℕ) → has_key values key ≡ holds_key pairs key)
       → list_all (λ value. list_all (has_key values) (mandatory_keys value)) (values_of found)
-          ≡ true
+      ≡ true
   all_there values [] same = refl
   all_there values (pair ∷ found) same =
       ap (λ b. b && list_all (λ value. list_all (has_key values) (mandatory_keys value))
-          (values_of found))
+      (values_of found))
       (keys_there values (mandatory_keys (pair_value pairs pair)) same (pair_there pair))
       ∙ all_there values found same
 
@@ -212,7 +214,7 @@ module _ (pairs : Pairs) where
   insert_lowest least pair [] ascends = refl
   insert_lowest least pair (other ∷ found) ascends =
       ap (λ b. cond b (pair ∷ other ∷ found) (other ∷ insert_pair pair found))
-          (not_above pair.0 other.0 ascends.0)
+      (not_above pair.0 other.0 ascends.0)
 
   map_of-found : (least : ℕ) (found : Pairs) → Ascends least found → HaveOctets found
       → map_of (values_of found) ≡ found
@@ -220,16 +222,16 @@ module _ (pairs : Pairs) where
   map_of-found least (pair ∷ found) ascends octets =
       let back = pair_of least pair found ascends octets in
       let same : (key_of (pair_value pairs pair), encode (pair_value pairs pair)) ≡ pair =
-          ap₂ (λ key octets. (key, octets)) back.key back.octets in
+      ap₂ (λ key octets. (key, octets)) back.key back.octets in
       ap₂ insert_pair same (map_of-found (pair.0 + 1) found ascends.3 octets.1)
-          ∙ insert_lowest least pair found ascends.3
+      ∙ insert_lowest least pair found ascends.3
 
 -- the tokens of a map's texts are spelled as that map
 pub params_again : ParamsReadBack
 params_again pairs is_map octets front tokens are =
     let values = map (pair_value pairs) pairs in
     params-spelled front tokens values (spelled_values pairs 0 pairs tokens is_map octets are)
-        (new_values pairs 0 [] pairs is_map octets tt)
+    (new_values pairs 0 [] pairs is_map octets tt)
     (all_there pairs values pairs (λ key. has_key-found pairs 0 pairs key is_map octets))
     ∙ ap (λ (found : Pairs). done found (length front + length tokens))
     (map_of-found pairs 0 pairs is_map octets)
@@ -247,7 +249,7 @@ has_tokens-spaced (text ∷ []) (token ∷ next ∷ tokens) are = absurd are.1
 has_tokens-spaced (text ∷ next ∷ texts) (token ∷ tokens) are =
     let rest = join_with_byte 32 (next ∷ texts) in
     token_on 0 (32 ∷ rest) tokens text token are.0
-        (blank_on 0 rest tokens 32 refl (has_tokens-spaced (next ∷ texts) tokens are.1))
+    (blank_on 0 rest tokens 32 refl (has_tokens-spaced (next ∷ texts) tokens are.1))
 
 -- each pair's text has a token
 pub tokens_of_texts : (pairs : Pairs) (least : ℕ) (found : Pairs) → Ascends least found

@@ -30,8 +30,13 @@ module _ (special : ℕ → Bool) where
   spelled-length (octet ∷ octets) =
       let first = written-length (printed_as special octet) in
       let others = spelled-length octets in
-      omega (arith, first, others, length-append (printed_octet special octet)
-          (flat_map (printed_octet special) octets))
+      omega (
+        arith,
+        first,
+        others,
+        length-append (printed_octet special octet)
+            (flat_map (printed_octet special) octets),
+      )
 
 pub octets-length : (octets : List ℕ) → length (printed_octets octets) ≤ 4 * length octets
 octets-length octets = spelled-length is_special octets
@@ -48,8 +53,13 @@ item-length [] = omega arith
 item-length (c ∷ item) =
     let first = escape-length (is_escaped_in_item c) c in
     let others = item-length item in
-    omega (arith, first, others, length-append (cond (is_escaped_in_item c) (92 ∷ c ∷ []) (c ∷ []))
-        (escaped_item item))
+    omega (
+      arith,
+      first,
+      others,
+      length-append (cond (is_escaped_in_item c) (92 ∷ c ∷ []) (c ∷ []))
+          (escaped_item item),
+    )
 
 -- ---- numbers and keys
 
@@ -66,10 +76,10 @@ mnemonic-length : (rows : List (ℕ × List ℕ)) (n : ℕ) (text : List ℕ)
 mnemonic-length [] n text short few = few
 mnemonic-length (row ∷ rows) n text short few =
     let both = and_parts (nat_lt (length row.1) 21)
-        (list_all (λ row. nat_lt (length row.1) 21) rows) short in
+    (list_all (λ row. nat_lt (length row.1) 21) rows) short in
     let own : length row.1 ≤ 20 = grind (arith, nat_tests) in
     elim (row.0 == n) as
-        (λ is. length (unwrap_or (cond is (Some row.1) (mnemonic_of rows n)) text) ≤ 20) [
+    (λ is. length (unwrap_or (cond is (Some row.1) (mnemonic_of rows n)) text) ≤ 20) [
       | true ↦ own
       | false ↦ mnemonic-length rows n text both.1 few
     ]
@@ -83,7 +93,7 @@ pub opaque_key-length : (key : ℕ) → key < 65536 → length (opaque_key_name 
 opaque_key-length key small =
     let number = number-length key small in
     elim (nat_lt key 10) as
-        (λ typed. length (cond typed (codes "key" ++ decimal key) (key_name key)) ≤ 20) [
+    (λ typed. length (cond typed (codes "key" ++ decimal key) (key_name key)) ≤ 20) [
       | true ↦ omega arith
       | false ↦ key-length key small
     ]
@@ -101,8 +111,13 @@ pub base64-length : (octets : List ℕ) → length (base64_text octets) ≤ 2 * 
 base64-length octets =
     let symbols = symbols-length letters octets in
     let padding = length-replicate {A = ℕ} (padding_len (length octets)) 61 in
-    omega (arith, symbols, padding, length-append (encode_symbols letters octets)
-        (replicate (padding_len (length octets)) 61))
+    omega (
+      arith,
+      symbols,
+      padding,
+      length-append (encode_symbols letters octets)
+          (replicate (padding_len (length octets)) 61),
+    )
 
 -- ---- a key and what is behind it
 
@@ -111,9 +126,9 @@ pub with_text-length : (key text : List ℕ)
 with_text-length key text =
     elim (length text == 0) as
     (λ none. length (cond none key (key ++ 61 ∷ text)) ≤ length key + length text + 1) [
-  | true ↦ omega arith
-  | false ↦ omega (arith, length-append key (61 ∷ text))
-]
+      | true ↦ omega arith
+      | false ↦ omega (arith, length-append key (61 ∷ text))
+    ]
 
 -- the octets of items with one more for each
 abbrev pub room : List (List ℕ) → ℕ

@@ -45,7 +45,7 @@ plain_item_again item is =
     let some : 0 < length item = is.0 in
     let full : (length item == 0) ≡ false = grind (arith, nat_tests) in
     ap (λ b. cond b (Err BadListEscape) (cond (length item == 0) (Err EmptyItem) (Ok item)))
-        (no_escape item is.1)
+    (no_escape item is.1)
     ∙ ap (λ b. cond b (Err EmptyItem) (Ok item)) full
 
 plain_item-ok : (item text : List ℕ) → plain_item item ≡ Ok text → (item ≡ text) × IsUnescaped item
@@ -57,9 +57,9 @@ plain_item-ok item text =
       | false ↦ λ none. elim (length item == 0) as
           (λ b. (length item == 0) ≡ b → cond b (Err EmptyItem) (Ok item) ≡ Ok text
           → (item ≡ text) × IsUnescaped item) [
-        | true ↦ λ empty is. absurd cc
-        | false ↦ λ some is. (cc, (grind (arith, nat_tests), no_backslash item none))
-      ] refl
+            | true ↦ λ empty is. absurd cc
+            | false ↦ λ some is. (cc, (grind (arith, nat_tests), no_backslash item none))
+          ] refl
     ] refl
 
 -- what is read behind the test of an item
@@ -112,7 +112,7 @@ behind_text text next x is =
 pub short_value-ok : (made value : Value) → short_value made ≡ Ok value → IsShort made value
 short_value-ok made value =
     elim (nat_lt 65535 (length (encode made))) as (λ b. nat_lt 65535 (length (encode made)) ≡ b
-        → cond b (Err LongValue) (Ok made) ≡ Ok value → IsShort made value) [
+    → cond b (Err LongValue) (Ok made) ≡ Ok value → IsShort made value) [
       | true ↦ λ long is. absurd cc
       | false ↦ λ short is. (cc, grind (arith, nat_tests))
     ] refl
@@ -140,17 +140,23 @@ some_items text (item ∷ items) some joined = omega arith
 pub items-split : (text : List ℕ) (items : List (List ℕ)) → IsPlainList text items
     → comma_items text ≡ items
 items-split text items is =
-    (comma_items_exact text items).1
-        (Each-map IsPlainItem HasNoComma items (λ item plain. plain.1) is.1, is.2, λ some.
-        some_list text items is)
+    (comma_items_exact text items).1 (
+      Each-map IsPlainItem HasNoComma items (λ item plain. plain.1) is.1,
+      is.2,
+      λ some.
+          some_list text items is,
+    )
 
 -- what is split into items that have no escapes is a text of these items
 list-split : (text : List ℕ) → 0 < length text → Each IsUnescaped (comma_items text)
     → IsPlainList text (comma_items text)
 list-split text some are =
-    let split = (comma_items_exact text (comma_items text)).0 refl in
-    (some_items text (comma_items text) some split.1, both_plain
-        (comma_items text) split.0 are, split.1)
+    let split = (comma_items_exact text (comma_items text)).0 refl in (
+      some_items text (comma_items text) some split.1,
+      both_plain
+          (comma_items text) split.0 are,
+      split.1,
+    )
 
 -- ---- by a rule that reads an item which has no escapes, where it is new to what was read before
 
@@ -160,12 +166,12 @@ module _ {A : Type 0} (rule : List A → List ℕ → Result A ScanError) (reads
   read_items-ok : (before : List A) (items : List (List ℕ)) (all : List A)
       → read_items rule before items ≡ Ok all
       → (xs : List A) × (all ≡ before ++ xs) × Each IsUnescaped items
-          × (map reads items ≡ map Some xs) × AllNew New before xs
+      × (map reads items ≡ map Some xs) × AllNew New before xs
   read_items-ok before [] all is = let same : before ≡ all = cc
       in ([], sym same ∙ sym (append-nil before), tt, refl, tt)
   read_items-ok before (item ∷ items) all is =
       let first = before_ok (rule before item) (λ x. read_items rule (before ++ x ∷ []) items) all
-          is in
+      is in
       let known = (exact before item first.0).0 first.1 in
       let rest = read_items-ok (before ++ first.0 ∷ []) items all first.2 in (
         first.0 ∷ rest.0,
@@ -185,22 +191,22 @@ module _ {A : Type 0} (rule : List A → List ℕ → Result A ScanError) (reads
       let first : reads item ≡ Some x = cc in
       let rest : map reads items ≡ map Some xs = cc in
       ap (λ r. r >>= λ y. read_items rule (before ++ y ∷ []) items)
-          ((exact before item x).1 (are.0, first, new.0))
+      ((exact before item x).1 (are.0, first, new.0))
       ∙ read_items-from (before ++ x ∷ []) items xs are.1 rest new.1
       ∙ ap Ok (append_assoc before (x ∷ []) xs)
 
   -- a text spells exactly the values that are made of what its items spell
   pub list_exact : (make : List A → Value) (text : List ℕ) (value : Value)
       → ((some_text text >>= λ list. read_items rule [] (comma_items list)
-          >>= λ xs. short_value (make xs)) ≡ Ok value)
+      >>= λ xs. short_value (make xs)) ≡ Ok value)
       ↔ ((xs : List A) × IsListOf reads text xs × AllNew New [] xs × IsShort (make xs) value)
   list_exact make text value = (
     λ is.
         let some = behind_text text
-            (λ list. read_items rule [] (comma_items list) >>= λ xs. short_value (make xs)) value
-            is in
+        (λ list. read_items rule [] (comma_items list) >>= λ xs. short_value (make xs)) value
+        is in
         let all = before_ok (read_items rule [] (comma_items text))
-            (λ xs. short_value (make xs)) value some.1 in
+        (λ xs. short_value (make xs)) value some.1 in
         let known = read_items-ok [] (comma_items text) all.0 all.1 in (
           known.0,
           (comma_items text, list-split text some.0 known.2, known.3),
@@ -211,7 +217,7 @@ module _ {A : Type 0} (rule : List A → List ℕ → Result A ScanError) (reads
     λ is.
         let (xs, (items, plain, read), new, short) = is in
         ap (λ r. r >>= λ list. read_items rule [] (comma_items list)
-            >>= λ xs. short_value (make xs)) (some_text_again text (some_list text items plain))
+        >>= λ xs. short_value (make xs)) (some_text_again text (some_list text items plain))
         ∙ ap (λ list. read_items rule [] list >>= λ xs. short_value (make xs))
         (items-split text items plain)
         ∙ ap (λ r. r >>= λ xs. short_value (make xs))

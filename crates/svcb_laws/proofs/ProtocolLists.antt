@@ -27,8 +27,8 @@ onto_item-plain : (c : ℕ) (text : List ℕ) (read : Result ItemRead ScanError)
 onto_item-plain c text (Err fault) plain is = tt
 onto_item-plain c text (Ok read) plain is =
     ap (λ (tail : List ℕ). c ∷ tail) is
-        ∙ sym (ap (λ b. (cond b (92 ∷ c ∷ []) (c ∷ []) ++ escaped_item read.item)
-        ++ behind_item read.rest) plain)
+    ∙ sym (ap (λ b. (cond b (92 ∷ c ∷ []) (c ∷ []) ++ escaped_item read.item)
+    ++ behind_item read.rest) plain)
 
 onto_item-escape : (c : ℕ) (text : List ℕ) (read : Result ItemRead ScanError)
     → is_escaped_in_item c ≡ true → IsTextRead text read
@@ -36,8 +36,8 @@ onto_item-escape : (c : ℕ) (text : List ℕ) (read : Result ItemRead ScanError
 onto_item-escape c text (Err fault) escaped is = tt
 onto_item-escape c text (Ok read) escaped is =
     ap (λ (tail : List ℕ). 92 ∷ c ∷ tail) is
-        ∙ sym (ap (λ b. (cond b (92 ∷ c ∷ []) (c ∷ []) ++ escaped_item read.item)
-        ++ behind_item read.rest) escaped)
+    ∙ sym (ap (λ b. (cond b (92 ∷ c ∷ []) (c ∷ []) ++ escaped_item read.item)
+    ++ behind_item read.rest) escaped)
 
 plain_octet : (c : ℕ) → (c == 44) ≡ false → (c == 92) ≡ false → is_escaped_in_item c ≡ false
 plain_octet c comma backslash = grind (arith, nat_tests)
@@ -47,37 +47,37 @@ read_item-text : (text : List ℕ) → IsTextRead text (read_item text)
 read_item-text [] = refl
 read_item-text (c ∷ []) =
     elim (c == 44) as
-        (λ b. (c == 44) ≡ b
-        → IsTextRead (c ∷ []) (cond b (Ok (record { item = []; rest = Some [] }))
+    (λ b. (c == 44) ≡ b
+    → IsTextRead (c ∷ []) (cond b (Ok (record { item = []; rest = Some [] }))
     (cond (c == 92) (Err BadListEscape) (Ok (record { item = c ∷ []; rest = None }))))) [
       | true ↦ λ is. let comma : c ≡ 44 = grind (arith, nat_tests) in ap (λ d. d ∷ []) comma
       | false ↦ λ comma. elim (c == 92) as
           (λ b. (c == 92) ≡ b
           → IsTextRead (c ∷ [])
           (cond b (Err BadListEscape) (Ok (record { item = c ∷ []; rest = None })))) [
-        | true ↦ λ is. tt
-        | false ↦ λ backslash. onto_item-plain c [] (Ok (record { item = []; rest = None }))
-            (plain_octet c comma backslash) refl
-      ] refl
+            | true ↦ λ is. tt
+            | false ↦ λ backslash. onto_item-plain c [] (Ok (record { item = []; rest = None }))
+                (plain_octet c comma backslash) refl
+          ] refl
     ] refl
 read_item-text (c ∷ next ∷ text) =
     elim (c == 44) as
-        (λ b. (c == 44) ≡ b
-        → IsTextRead (c ∷ next ∷ text)
-        (cond b (Ok (record { item = []; rest = Some (next ∷ text) }))
+    (λ b. (c == 44) ≡ b
+    → IsTextRead (c ∷ next ∷ text)
+    (cond b (Ok (record { item = []; rest = Some (next ∷ text) }))
     (cond (c == 92)
-        (cond (is_escaped_in_item next) (onto_item next (read_item text)) (Err BadListEscape))
-        (onto_item c (read_item (next ∷ text)))))) [
+    (cond (is_escaped_in_item next) (onto_item next (read_item text)) (Err BadListEscape))
+    (onto_item c (read_item (next ∷ text)))))) [
       | true ↦ λ is. let comma : c ≡ 44 = grind (arith, nat_tests)
           in ap (λ d. d ∷ next ∷ text) comma
       | false ↦ λ comma. elim (c == 92) as (λ b. (c == 92) ≡ b → IsTextRead (c ∷ next ∷ text)
           (cond b (cond (is_escaped_in_item next) (onto_item next (read_item text))
-              (Err BadListEscape)) (onto_item c (read_item (next ∷ text))))) [
+          (Err BadListEscape)) (onto_item c (read_item (next ∷ text))))) [
             | true ↦ λ is.
                 let backslash : 92 ≡ c = grind (arith, nat_tests) in
                 subst (λ d. IsTextRead (d ∷ next ∷ text)
-                    (cond (is_escaped_in_item next) (onto_item next (read_item text))
-                    (Err BadListEscape))) backslash
+                (cond (is_escaped_in_item next) (onto_item next (read_item text))
+                (Err BadListEscape))) backslash
                 (elim (is_escaped_in_item next) as (λ b. is_escaped_in_item next ≡ b
                 → IsTextRead (92 ∷ next ∷ text)
                 (cond b (onto_item next (read_item text)) (Err BadListEscape))) [
@@ -96,8 +96,8 @@ some_octets-ok : (read found : ItemRead) → some_octets read ≡ Ok found
     → (read ≡ found) × (0 < length found.item)
 some_octets-ok read found =
     elim (length read.item == 0) as
-        (λ b. (length read.item == 0) ≡ b → cond b (Err EmptyItem) (Ok read) ≡ Ok found
-        → (read ≡ found) × (0 < length found.item)) [
+    (λ b. (length read.item == 0) ≡ b → cond b (Err EmptyItem) (Ok read) ≡ Ok found
+    → (read ≡ found) × (0 < length found.item)) [
       | true ↦ λ e is. absurd cc
       | false ↦ λ e is. let same : read ≡ found =
           cc in (same, subst (λ (r : ItemRead). 0 < length r.item) same (grind (arith, nat_tests)))
@@ -107,11 +107,14 @@ short_item-ok : (read found : ItemRead) → short_item read ≡ Ok found
     → (read ≡ found) × (length found.item < 256)
 short_item-ok read found =
     elim (nat_lt 255 (length read.item)) as (λ b. nat_lt 255 (length read.item) ≡ b
-        → cond b (Err LongItem) (Ok read) ≡ Ok found → (read ≡ found) × (length found.item < 256)) [
+    → cond b (Err LongItem) (Ok read) ≡ Ok found → (read ≡ found) × (length found.item < 256)) [
       | true ↦ λ e is. absurd cc
       | false ↦ λ e is. let same : read ≡ found =
-          cc in (same, subst (λ (r : ItemRead). length r.item < 256) same
-          (grind (arith, nat_tests)))
+          cc in (
+            same,
+            subst (λ (r : ItemRead). length r.item < 256) same
+                (grind (arith, nat_tests)),
+          )
     ] refl
 
 -- a protocol is read from its escaped form alone
@@ -123,9 +126,11 @@ protocol_item-exact text read is =
     let last = short_item-ok short.0 read short.2 in
     let full = some_octets-ok some.0 short.0 some.2 in
     let whole : text ≡ item_text some.0 =
-        subst (λ (r : Result ItemRead ScanError). IsTextRead text r) some.1 (read_item-text text) in
-    ((subst (λ (r : ItemRead). 0 < length r.item) last.0 full.1, last.1), whole
-        ∙ ap item_text (full.0 ∙ last.0))
+    subst (λ (r : Result ItemRead ScanError). IsTextRead text r) some.1 (read_item-text text) in (
+      (subst (λ (r : ItemRead). 0 < length r.item) last.0 full.1, last.1),
+      whole
+          ∙ ap item_text (full.0 ∙ last.0),
+    )
 
 -- ---- protocols
 
@@ -133,9 +138,12 @@ more_protocols : (text protocol rest : List ℕ) (protocols : List (List ℕ)) �
     → text ≡ escaped_item protocol ++ 44 ∷ rest
     → IsProtocolList rest protocols → IsProtocolList text (protocol ∷ protocols)
 more_protocols text protocol rest [] is joined are = absurd (omega (arith, are.0))
-more_protocols text protocol rest (next ∷ protocols) is joined are =
-    (omega arith, (is, are.1), joined
-        ∙ ap (λ (tail : List ℕ). escaped_item protocol ++ 44 ∷ tail) are.2)
+more_protocols text protocol rest (next ∷ protocols) is joined are = (
+  omega arith,
+  (is, are.1),
+  joined
+      ∙ ap (λ (tail : List ℕ). escaped_item protocol ++ 44 ∷ tail) are.2,
+)
 
 shorter_rest : (text front rest : List ℕ) → text ≡ front ++ 44 ∷ rest → length rest < length text
 shorter_rest text front rest joined =
@@ -148,17 +156,17 @@ module _ (again : List ℕ → Result (List (List ℕ)) ScanError) (text : List 
   step-exact : (item : List ℕ) (rest : Option (List ℕ)) (protocols : List (List ℕ))
       → IsProtocol item → text ≡ escaped_item item ++ behind_item rest
       → protocols_step again (record { item = item; rest = rest }) ≡ Ok protocols
-          → IsProtocolList text protocols
+      → IsProtocolList text protocols
   step-exact item None protocols is whole read =
       let one : item ∷ [] ≡ protocols = cc in
       subst (IsProtocolList text) one
-          (omega arith, (is, tt), whole ∙ append-nil (escaped_item item))
+      (omega arith, (is, tt), whole ∙ append-nil (escaped_item item))
   step-exact item (Some rest) protocols is whole read =
       let behind = before_ok (again rest) (λ items. Ok (item ∷ items)) protocols read in
       let all : item ∷ behind.0 ≡ protocols = cc (behind.2) in
       subst (IsProtocolList text) all
       (more_protocols text item rest behind.0 is whole
-          (exact rest behind.0 (shorter_rest text (escaped_item item) rest whole) behind.1))
+      (exact rest behind.0 (shorter_rest text (escaped_item item) rest whole) behind.1))
 
 protocols_within-exact : (count : ℕ) (text : List ℕ) (protocols : List (List ℕ))
     → length text < count → protocols_within count text ≡ Ok protocols
@@ -166,10 +174,10 @@ protocols_within-exact : (count : ℕ) (text : List ℕ) (protocols : List (List
 protocols_within-exact zero text protocols enough is = absurd (omega arith)
 protocols_within-exact (suc count) text protocols enough is =
     let first = before_ok (protocol_item text) (protocols_step (protocols_within count)) protocols
-        (sym (protocols_within-step count text) ∙ is) in
+    (sym (protocols_within-step count text) ∙ is) in
     let known = protocol_item-exact text first.0 first.1 in
     step-exact (protocols_within count) text
-        (λ rest items less behind. protocols_within-exact count rest items (omega arith) behind)
+    (λ rest items less behind. protocols_within-exact count rest items (omega arith) behind)
     first.0.item first.0.rest protocols known.0 known.1 first.2
 
 protocols-again : (text : List ℕ) (protocols : List (List ℕ)) → IsProtocolList text protocols
@@ -189,8 +197,8 @@ pub some_protocols : (text : List ℕ) (protocols : List (List ℕ)) → IsProto
 some_protocols text [] are = absurd (omega (arith, are.0))
 some_protocols text (protocol ∷ protocols) are =
     subst (λ (t : List ℕ). 0 < length t) (sym are.2)
-        (some-join (escaped_item protocol) (map escaped_item protocols)
-        (some-escaped protocol are.1.0.0))
+    (some-join (escaped_item protocol) (map escaped_item protocols)
+    (some-escaped protocol are.1.0.0))
 
 -- ---- by step
 
@@ -200,11 +208,11 @@ module _ (f g : List ℕ → Result (List (List ℕ)) ScanError) (text : List �
   same_rest : (item : List ℕ) (rest : Option (List ℕ))
       → text ≡ escaped_item item ++ behind_item rest
       → protocols_step f (record { item = item; rest = rest })
-          ≡ protocols_step g (record { item = item; rest = rest })
+      ≡ protocols_step g (record { item = item; rest = rest })
   same_rest item None whole = refl
   same_rest item (Some rest) whole =
       ap (λ (r : Result (List (List ℕ)) ScanError). r >>= λ items. Ok (item ∷ items))
-          (same rest (shorter_rest text (escaped_item item) rest whole))
+      (same rest (shorter_rest text (escaped_item item) rest whole))
 
   same_step : (first : Result ItemRead ScanError) → protocol_item text ≡ first
       → (first >>= protocols_step f) ≡ (first >>= protocols_step g)
@@ -228,4 +236,4 @@ protocols_of-step text =
     protocols_within-step (length text) text
     ∙ same_step (protocols_within (length text)) protocols_of text
     (λ rest less. within_enough (length text) (suc (length rest)) rest less (omega arith))
-        (protocol_item text) refl
+    (protocol_item text) refl

@@ -60,7 +60,7 @@ module _ (message : List ℕ) (end : ℕ) (are : AreOctets message) where
   with_label-octets label (Ok found) octets good name is =
       let same : record { labels = label ∷ found.labels; next = found.next } ≡ name = cc in
       subst HasOctets same
-          (octets_joined label (flat_map (λ l. l) found.labels) octets (good found refl))
+      (octets_joined label (flat_map (λ l. l) found.labels) octets (good found refl))
 
   by_pointer-octets : (next : ℕ) (target : Result NameRead Fault) → ReadsOctets target
       → ReadsOctets (by_pointer next target)
@@ -77,23 +77,23 @@ module _ (message : List ℕ) (end : ℕ) (are : AreOctets message) where
       let first = slice_index message pos in
       let target = (slice_index message pos % 64) * 256 + slice_index message (pos + 1) in
       either (first == 0) (Ok (record { labels = []; next = pos + 1 })) _ name
-          (second (nat_le end pos) Short _ name is)
+      (second (nat_le end pos) Short _ name is)
       (λ root. let same : record { labels = []; next = pos + 1 } ≡ name = cc
-          in subst HasOctets same tt)
+      in subst HasOctets same tt)
       (λ other. either (nat_lt first 64) (label_step again message end pos octets pointers) _ name
-          other
+      other
       (λ label. with_label-octets (slice_range message (pos + 1) (pos + 1 + first))
-          (again (pos + 1 + first) (octets + first + 1) pointers)
+      (again (pos + 1 + first) (octets + first + 1) pointers)
       (octets_range message (pos + 1) (pos + 1 + first) are)
-          (good (pos + 1 + first) (octets + first + 1) pointers) name
+      (good (pos + 1 + first) (octets + first + 1) pointers) name
       (second (nat_lt 254 (octets + first + 1)) Form _ name
-          (second (nat_lt end (pos + 1 + first)) Short _ name label)))
+      (second (nat_lt end (pos + 1 + first)) Short _ name label)))
       (λ high. by_pointer-octets (pos + 2) (again target octets (pointers + 1))
-          (good target octets (pointers + 1)) name
+      (good target octets (pointers + 1)) name
       (second (nat_le pos target || nat_le 255 pointers) Form _ name
-          (second (nat_le end (pos + 1)) Short _ name
+      (second (nat_le end (pos + 1)) Short _ name
       (second (nat_lt first 192) Form (pointer_step again message end pos octets pointers) name
-          high)))))
+      high)))))
 
   name_within-octets : (steps pos octets pointers : ℕ)
       → ReadsOctets (name_within steps message end pos octets pointers)
@@ -133,11 +133,11 @@ module _ (message : List ℕ) (end : ℕ) (are : AreOctets message) where
       either (pos == end) (Ok []) _ pairs is
       (λ none. let same : [] ≡ pairs = cc in subst HaveOctets same tt)
       (λ some. with_pair-octets (key, slice_range message (pos + 4) (pos + 4 + n))
-          (again (pos + 4 + n) (Some key))
+      (again (pos + 4 + n) (Some key))
       (octets_range message (pos + 4) (pos + 4 + n) are) (good (pos + 4 + n) (Some key)) pairs
       (second (nat_lt end (pos + 4 + n)) Short _ pairs (second (nat_lt end (pos + 4)) Short _ pairs
       (second (not (is_above last key)) Form (pair_step again message end pos) pairs
-          (second (nat_lt end (pos + 2)) Short _ pairs some)))))
+      (second (nat_lt end (pos + 2)) Short _ pairs some)))))
 
   pairs_within-octets : (steps pos : ℕ) (last : Option ℕ)
       → ReadsPairs (pairs_within steps message end pos last)
@@ -161,13 +161,13 @@ module _ (message : List ℕ) (start len : ℕ) (found : Record) (are : AreOctet
   by_pairs : (name : NameRead) (pairs : Result Pairs Fault)
       → name_at message (start + len) (start + 2) 0 0 ≡ Ok name
       → pairs_at message (start + len) name.next None ≡ pairs → read message start len ≡ Ok found
-          → IsRecord found → IsRecordOfOctets found
+      → IsRecord found → IsRecordOfOctets found
   unfolding read
   by_pairs name (Err fault) name_is pairs_are is is_record = absurd (grind (arith, nat_tests))
   by_pairs name (Ok pairs) name_is pairs_are is is_record =
       let same : found
-          ≡ record { priority = number_at message start; labels = name.labels; pairs = pairs } =
-          grind (arith, nat_tests) in
+      ≡ record { priority = number_at message start; labels = name.labels; pairs = pairs } =
+      grind (arith, nat_tests) in
       record {
         is_record = is_record;
         labels = subst (λ r. AreOctets (flat_map (λ label. label) r.labels)) (sym same)

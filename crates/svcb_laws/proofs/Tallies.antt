@@ -35,7 +35,7 @@ module _ {A : Type 0} where
   list_all-any test [] = refl
   list_all-any test (x ∷ xs) =
       elim (test x) as
-          (λ b. (b && list_all test xs) ≡ not (not b || list_any (λ y. not (test y)) xs)) [
+      (λ b. (b && list_all test xs) ≡ not (not b || list_any (λ y. not (test y)) xs)) [
         | true ↦ list_all-any test xs
         | false ↦ refl
       ]
@@ -44,7 +44,7 @@ module _ {A : Type 0} where
       → list_all test xs ≡ list_all test ys
   list_all-IsPermutation test xs ys same =
       list_all-any test xs ∙ ap not (list_any-IsPermutation (λ x. not (test x)) xs ys same)
-          ∙ sym (list_all-any test ys)
+      ∙ sym (list_all-any test ys)
 
   pub list_all-same : (test other : A → Bool) (xs : List A) → ((x : A) → test x ≡ other x)
       → list_all test xs ≡ list_all other xs
@@ -67,7 +67,7 @@ none_counted f key least [] zero_above lower ascends = refl
 none_counted f key least (pair ∷ pairs) zero_above lower ascends =
     let here = zero_above pair (omega (arith, ascends.0)) in
     let rest = none_counted f key (pair.0 + 1) pairs zero_above
-        (omega (arith, ascends.0)) ascends.1 in
+    (omega (arith, ascends.0)) ascends.1 in
     omega (arith, here, rest)
 
 -- one where a test passes
@@ -114,9 +114,9 @@ counted false is = absurd (omega (arith, is))
 of_pair-is : (pair other : Pair) → of_pair pair other ≡ 1 → pair ≡ other
 of_pair-is pair other is =
     let both = and_parts (other.0 == pair.0) (bytes_eq other.1 pair.1)
-        (counted ((other.0 == pair.0) && bytes_eq other.1 pair.1) is) in
+    (counted ((other.0 == pair.0) && bytes_eq other.1 pair.1) is) in
     ap₂ (λ key octets. (key, octets)) (sym (is_equal other.0 pair.0 both.0))
-        (sym ((bytes_eq-Decides other.1 pair.1).0 both.1))
+    (sym ((bytes_eq-Decides other.1 pair.1).0 both.1))
 
 -- where the first keys differ, the lower one is counted in one map alone
 lower_first : (pair other : Pair) (pairs others : Pairs) → AscendsKeys (other.0 + 1) others
@@ -125,7 +125,7 @@ lower_first : (pair other : Pair) (pairs others : Pairs) → AscendsKeys (other.
 lower_first pair other pairs others ascends lower same =
     let one = of_key-same pair in
     let none = none_counted (of_key pair.0) pair.0 other.0 (other ∷ others)
-        (of_key-above pair.0) lower (omega arith, ascends) in
+    (of_key-above pair.0) lower (omega arith, ascends) in
     omega (arith, one, none, same)
 
 -- maps in which all is counted alike are the same
@@ -137,22 +137,22 @@ same_maps least [] (other ∷ others) ascends ascends' same = absurd (omega (ari
 same_maps least (pair ∷ pairs) [] ascends ascends' same = absurd (omega (arith, same (λ p. 1)))
 same_maps least (pair ∷ pairs) (other ∷ others) ascends ascends' same =
     elim (cases_lt pair.0 other.0) [
-  | inl lower ↦ absurd (lower_first pair other pairs others ascends'.1 lower (same (of_key pair.0)))
-  | inr not_lower ↦ elim (cases_lt other.0 pair.0) [
-    | inl lower ↦ absurd
-        (lower_first other pair others pairs ascends.1 lower (sym (same (of_key other.0))))
-    | inr not_higher ↦
-        let key : pair.0 ≡ other.0 = omega arith in
-        let one = of_pair-same pair in
-        let none = none_counted (of_pair pair) pair.0 (pair.0 + 1) pairs (of_pair-above pair)
+      | inl lower ↦ absurd (lower_first pair other pairs others ascends'.1 lower (same (of_key pair.0)))
+      | inr not_lower ↦ elim (cases_lt other.0 pair.0) [
+        | inl lower ↦ absurd
+            (lower_first other pair others pairs ascends.1 lower (sym (same (of_key other.0))))
+        | inr not_higher ↦
+            let key : pair.0 ≡ other.0 = omega arith in
+            let one = of_pair-same pair in
+            let none = none_counted (of_pair pair) pair.0 (pair.0 + 1) pairs (of_pair-above pair)
             (omega arith) ascends.1 in
-        let none' = none_counted (of_pair pair) pair.0 (other.0 + 1) others (of_pair-above pair)
+            let none' = none_counted (of_pair pair) pair.0 (other.0 + 1) others (of_pair-above pair)
             (omega arith) ascends'.1 in
-        let is : pair ≡ other =
+            let is : pair ≡ other =
             of_pair-is pair other (omega (arith, one, none, none', same (of_pair pair))) in
-        let rest = same_maps (pair.0 + 1) pairs others ascends.1
+            let rest = same_maps (pair.0 + 1) pairs others ascends.1
             (subst (λ n. AscendsKeys (n + 1) others) (sym key) ascends'.1)
-        (λ f. omega (arith, same f, ap f is)) in
-        ap₂ (λ (p : Pair) (ps : Pairs). p ∷ ps) is rest
-  ]
-]
+            (λ f. omega (arith, same f, ap f is)) in
+            ap₂ (λ (p : Pair) (ps : Pairs). p ∷ ps) is rest
+      ]
+    ]

@@ -69,7 +69,7 @@ module _ (values : List Value) (end : ℕ) where
   after_value : (before : List Value) (token : List Symbol) (tokens : List (List Symbol))
       (place : ℕ) → spells (octets_of token) ≡ Ok (spelled_value token)
       → has_key before (key_of (spelled_value token)) ≡ false
-          → AreValuesOf (before ++ spelled_value token ∷ []) tokens (place + 1) values end
+      → AreValuesOf (before ++ spelled_value token ∷ []) tokens (place + 1) values end
       → AreValuesOf before (token ∷ tokens) place values end
   after_value before token tokens place is new rest = record {
     spelled = and_from (is_spelled token) (list_all is_spelled tokens)
@@ -85,11 +85,15 @@ module _ (values : List Value) (end : ℕ) where
       → AreValuesOf before tokens place values end
   values_at-done before [] place read =
       let same = same_done before values place end read in
-      record { spelled = refl; new = tt; are = sym same.0 ∙ sym (append-nil before);
-          all_taken = omega (arith, same.1) }
+      record {
+        spelled = refl;
+        new = tt;
+        are = sym same.0 ∙ sym (append-nil before);
+        all_taken = omega (arith, same.1);
+      }
   values_at-done before (token ∷ tokens) place read =
       elim (spells (octets_of token)) as (λ r. spells (octets_of token) ≡ r
-          → after_token before tokens place r ≡ done values end
+      → after_token before tokens place r ≡ done values end
       → AreValuesOf before (token ∷ tokens) place values end) [
         | Err fault ↦ λ is read. absurd (not_done fault place values end read)
         | Ok value ↦ λ is read.
@@ -102,7 +106,7 @@ module _ (values : List Value) (end : ℕ) where
               | false ↦ λ new read. after_value before token tokens place (is ∙ ap Ok here)
                   (subst (λ v. has_key before (key_of v) ≡ false) here new)
                   (subst (λ v. AreValuesOf (before ++ v ∷ []) tokens (place + 1) values end) here
-                      (values_at-done (before ++ value ∷ []) tokens (place + 1) read))
+                  (values_at-done (before ++ value ∷ []) tokens (place + 1) read))
             ] refl read
       ] refl read
 
@@ -120,7 +124,7 @@ no_key : (key : ℕ) (before : List Value) → has_key before key ≡ false
 no_key key [] none = refl
 no_key key (value ∷ before) none =
     elim (key_of value == key) as (λ b. (b || has_key before key) ≡ false
-        → one_if b + tally (of_value key) before ≡ 0) [
+    → one_if b + tally (of_value key) before ≡ 0) [
       | true ↦ λ h. absurd cc
       | false ↦ λ h. omega (arith, no_key key before h)
     ] none
@@ -130,7 +134,7 @@ some_key : (key : ℕ) (before : List Value) → has_key before key ≡ true
 some_key key [] some = absurd cc
 some_key key (value ∷ before) some =
     elim (key_of value == key) as (λ b. (b || has_key before key) ≡ true
-        → 0 < one_if b + tally (of_value key) before) [
+    → 0 < one_if b + tally (of_value key) before) [
       | true ↦ λ h. omega arith
       | false ↦ λ h. omega (arith, some_key key before h)
     ] some
@@ -141,12 +145,12 @@ once_more : (before : List Value) (value : Value) → KeysOnce before
 once_more before value once new key =
     let whole = tally-append (of_value key) before (value ∷ []) in
     elim (key_of value == key) as
-        (λ b. (key_of value == key) ≡ b
-        → tally (of_value key) (before ++ value ∷ []) ≡ tally (of_value key) before + (one_if b + 0)
+    (λ b. (key_of value == key) ≡ b
+    → tally (of_value key) (before ++ value ∷ []) ≡ tally (of_value key) before + (one_if b + 0)
     → tally (of_value key) (before ++ value ∷ []) ≤ 1) [
       | true ↦ λ is count.
           let none = no_key key before
-              (subst (λ n. has_key before n ≡ false) (is_equal (key_of value) key is) new) in
+          (subst (λ n. has_key before n ≡ false) (is_equal (key_of value) key is) new) in
           omega (arith, count, none)
       | false ↦ λ is count. omega (arith, count, once key)
     ] refl whole
@@ -156,7 +160,7 @@ new_once : (before values : List Value) → KeysOnce before → AreNew before va
 new_once before [] once new = subst KeysOnce (sym (append-nil before)) once
 new_once before (value ∷ values) once new =
     subst KeysOnce (append_assoc before (value ∷ []) values)
-        (new_once (before ++ value ∷ []) values (once_more before value once new.0) new.1)
+    (new_once (before ++ value ∷ []) values (once_more before value once new.0) new.1)
 
 once_new : (before values : List Value) → KeysOnce (before ++ values) → AreNew before values
 once_new before [] once = tt
@@ -167,9 +171,11 @@ once_new before (value ∷ values) once =
     let new = elim (has_key before key) as (λ b. has_key before key ≡ b → b ≡ false) [
       | true ↦ λ old. absurd (omega (arith, some_key key before old, count, here, once key))
       | false ↦ λ other. refl
-    ] refl in
-    (new, once_new (before ++ value ∷ []) values
-        (subst KeysOnce (sym (append_assoc before (value ∷ []) values)) once))
+    ] refl in (
+      new,
+      once_new (before ++ value ∷ []) values
+          (subst KeysOnce (sym (append_assoc before (value ∷ []) values)) once),
+    )
 
 -- ---- the map of values
 
@@ -181,8 +187,8 @@ tally-insert : (f : Pair → ℕ) (pair : Pair) (pairs : Pairs)
 tally-insert f pair [] = refl
 tally-insert f pair (other ∷ pairs) =
     elim (nat_le pair.0 other.0) as
-        (λ b. tally f (cond b (pair ∷ other ∷ pairs) (other ∷ insert_pair pair pairs))
-        ≡ f pair + (f other + tally f pairs)) [
+    (λ b. tally f (cond b (pair ∷ other ∷ pairs) (other ∷ insert_pair pair pairs))
+    ≡ f pair + (f other + tally f pairs)) [
       | true ↦ refl
       | false ↦ omega (arith, tally-insert f pair pairs)
     ]
@@ -218,8 +224,8 @@ insert-ascends least pair (other ∷ pairs) ascends most none =
     let here : one_if (other.0 == pair.0) ≡ 0 = omega (arith, none) in
     let rest : tally (of_key pair.0) pairs ≡ 0 = omega (arith, none) in
     elim (nat_le pair.0 other.0) as
-        (λ b. nat_le pair.0 other.0 ≡ b
-        → AscendsKeys least (cond b (pair ∷ other ∷ pairs) (other ∷ insert_pair pair pairs))) [
+    (λ b. nat_le pair.0 other.0 ≡ b
+    → AscendsKeys least (cond b (pair ∷ other ∷ pairs) (other ∷ insert_pair pair pairs))) [
       | true ↦ λ is. (most, (not_same pair.0 other.0 here (at_most pair.0 other.0 is), ascends.1))
       | false ↦ λ is.
           let above = not_at_most pair.0 other.0 is in
@@ -231,9 +237,9 @@ map_of-ascends [] once = tt
 map_of-ascends (value ∷ values) once =
     let here : of_value (key_of value) value ≡ 1 = ap one_if (same_number (key_of value)) in
     let none : tally (of_key (key_of value)) (map_of values) ≡ 0 =
-        omega (arith, tally-map_of (of_key (key_of value)) values, here, once (key_of value)) in
+    omega (arith, tally-map_of (of_key (key_of value)) values, here, once (key_of value)) in
     insert-ascends 0 (pair_of value) (map_of values)
-        (map_of-ascends values (λ key. omega (arith, once key))) (omega arith) none
+    (map_of-ascends values (λ key. omega (arith, once key))) (omega arith) none
 
 -- values in another order
 module _ (values others : List Value) (same : IsPermutation values others) where
@@ -244,10 +250,10 @@ module _ (values others : List Value) (same : IsPermutation values others) where
   map_of-others : KeysOnce values → map_of values ≡ map_of others
   map_of-others once =
       same_maps 0 (map_of values) (map_of others) (map_of-ascends values once)
-          (map_of-ascends others (once_others once))
+      (map_of-ascends others (once_others once))
       (λ f. tally-map_of f values
-          ∙ tally-IsPermutation (λ value. f (pair_of value)) values others same
-          ∙ sym (tally-map_of f others))
+      ∙ tally-IsPermutation (λ value. f (pair_of value)) values others same
+      ∙ sym (tally-map_of f others))
 
   has_key-others : (key : ℕ) → has_key values key ≡ has_key others key
   has_key-others key = list_any-IsPermutation (λ value. key_of value == key) values others same
@@ -255,11 +261,11 @@ module _ (values others : List Value) (same : IsPermutation values others) where
   there-others : are_mandatory_there values ≡ are_mandatory_there others
   there-others =
       list_all-IsPermutation (λ value. list_all (has_key values) (mandatory_keys value)) values
-          others same
+      others same
       ∙ list_all-same (λ value. list_all (has_key values) (mandatory_keys value))
       (λ value. list_all (has_key others) (mandatory_keys value)) others
       (λ value. list_all-same (has_key values) (has_key others)
-          (mandatory_keys value) has_key-others)
+      (mandatory_keys value) has_key-others)
 
 -- ---- parameters
 
@@ -275,7 +281,7 @@ made_of-done : (values : List Value) (place : ℕ) (pairs : Pairs) (end : ℕ)
     → (are_mandatory_there values ≡ true) × (map_of values ≡ pairs) × (place ≡ end)
 made_of-done values place pairs end read =
     elim (are_mandatory_there values) as
-        (λ b. cond b (done (map_of values) place) (refused MandatoryMissing place) ≡ done pairs end
+    (λ b. cond b (done (map_of values) place) (refused MandatoryMissing place) ≡ done pairs end
     → (b ≡ true) × (map_of values ≡ pairs) × (place ≡ end)) [
       | true ↦ λ read. let is = same_done (map_of values) pairs place end read in (refl, is.0, is.1)
       | false ↦ λ read. absurd (not_done MandatoryMissing place pairs end read)
@@ -283,7 +289,7 @@ made_of-done values place pairs end read =
 
 made_by : (outcome : Result (List Value) ScanError) (place : ℕ) (pairs : Pairs) (end : ℕ)
     → scan_then (record { outcome = outcome; place = place }) made_of ≡ done pairs end
-        → AreMadeOf (record { outcome = outcome; place = place }) pairs end
+    → AreMadeOf (record { outcome = outcome; place = place }) pairs end
 made_by (Err fault) place pairs end read = absurd (not_done fault place pairs end read)
 made_by (Ok values) place pairs end read =
     let is = made_of-done values place pairs end read in
@@ -296,7 +302,7 @@ any_order front tokens others pairs end same read =
     let scanned = values_at [] tokens place in
     let made : AreMadeOf scanned pairs end = made_by scanned.outcome scanned.place pairs end
     (sym (ap (λ (left : List (List Symbol)). scan_then (values_at [] left place) made_of)
-        (drop-append_seam front tokens)) ∙ read) in
+    (drop-append_seam front tokens)) ∙ read) in
     let known = values_at-done made.values end [] tokens place made.read in
     let found = map spelled_value tokens in
     let found' = map spelled_value others in
@@ -304,12 +310,12 @@ any_order front tokens others pairs end same read =
     let once = new_once [] found (λ key. omega arith) known.new in
     let spelled = sym (list_all-IsPermutation is_spelled tokens others same) ∙ known.spelled in
     let there = sym (there-others found found' same_values)
-        ∙ subst (λ values. are_mandatory_there values ≡ true) known.are made.there in
+    ∙ subst (λ values. are_mandatory_there values ≡ true) known.are made.there in
     let count : place + length others ≡ end =
-        omega (arith, known.all_taken, length_permutation tokens others same) in
+    omega (arith, known.all_taken, length_permutation tokens others same) in
     let maps : map_of found' ≡ pairs =
-        sym (map_of-others found found' same_values once) ∙ sym (ap map_of known.are) ∙ made.map
-        in (
+    sym (map_of-others found found' same_values once) ∙ sym (ap map_of known.are) ∙ made.map
+    in (
       known.all_taken,
       params-spelled front others found' (are_spelled others spelled)
           (once_new [] found' (once_others found found' same_values once)) there

@@ -41,7 +41,7 @@ use Rattle.svcb_laws.proofs.ListTexts.{items_again, item_again, IsReadBack, list
 pub no_default_alpn_again : IsValueText (value_printed NoDefaultAlpn) NoDefaultAlpn
 no_default_alpn_again =
     with_text_again (codes "no-default-alpn") [] [] NoDefaultAlpn (omega arith) refl
-        (bare-plain [] tt) refl
+    (bare-plain [] tt) refl
 
 pub ohttp_again : IsValueText (value_printed Ohttp) Ohttp
 ohttp_again = with_text_again (codes "ohttp") [] [] Ohttp (omega arith) refl (bare-plain [] tt) refl
@@ -51,7 +51,7 @@ port_again port small =
     let plain = ArePlain-decimal port (omega arith) in
     let read : port_value (decimal port) ≡ Ok (Port port) =
     ap (λ r. r >>= λ digits. ok_or (spelled_number (2 ^ 16) digits) BadPort >>= λ n. Ok (Port n))
-        (some_text_again (decimal port) (item-decimal port (omega arith)).0)
+    (some_text_again (decimal port) (item-decimal port (omega arith)).0)
     ∙ ap (λ (o : Option ℕ). ok_or o BadPort >>= λ n. Ok (Port n))
     (spelled_number-decimal 65536 port small (omega arith)) in
     bare_text_of (codes "port=" ++ decimal port) (codes "port=" ++ decimal port) (Port port)
@@ -74,7 +74,7 @@ some_base64 : (octets : List ℕ) → 0 < length octets → AreOctets octets
 some_base64 octets some are = some_if (base64_text octets) (λ none.
     let empty : octets ≡ [] =
     same_some octets [] (sym (base64_again octets are) ∙ ap base64_of (none ∙ sym base64_none)
-        ∙ base64_again [] tt) in
+    ∙ base64_again [] tt) in
     omega (arith, ap length empty))
 
 pub ech_again : (octets : List ℕ) → 0 < length octets → AreOctets octets → length octets < 65536
@@ -82,13 +82,13 @@ pub ech_again : (octets : List ℕ) → 0 < length octets → AreOctets octets �
 ech_again octets some are few =
     let read : ech_value (base64_text octets) ≡ Ok (Ech octets) =
     ap (λ r. r >>= λ letters. ok_or (base64_of letters) BadBase64
-        >>= λ octets. short_value (Ech octets))
-        (some_text_again (base64_text octets) (some_base64 octets some are))
+    >>= λ octets. short_value (Ech octets))
+    (some_text_again (base64_text octets) (some_base64 octets some are))
     ∙ ap (λ (o : Option (List ℕ)). ok_or o BadBase64 >>= λ octets. short_value (Ech octets))
     (base64_again octets are)
     ∙ short_again (Ech octets) few in
     with_text_again (codes "ech") (base64_text octets) (base64_text octets) (Ech octets)
-        (omega arith) refl
+    (omega arith) refl
     (bare-plain (base64_text octets) (ArePlain-base64 octets are)) read
 
 bare-plain_octet : (c : ℕ) → is_plain c ≡ true → is_bare c ≡ true
@@ -114,13 +114,13 @@ pub dohpath_again : (octets : List ℕ) → list_all is_plain octets ≡ true �
     → IsValueText (value_printed (DohPath octets)) (DohPath octets)
 dohpath_again octets are few =
     let utf8 : is_utf8 octets ≡ true =
-        is_utf8-from_IsUtf8 octets (IsUtf8-from_ascii octets (plain_ascii octets are)) in
+    is_utf8-from_IsUtf8 octets (IsUtf8-from_ascii octets (plain_ascii octets are)) in
     subst (λ b. IsValueText (with_text (codes "dohpath") (cond b octets (printed_octets octets)))
-        (DohPath octets)) (sym utf8)
+    (DohPath octets)) (sym utf8)
     (with_text_again (codes "dohpath") octets octets (DohPath octets) (omega arith) refl
-        (bare-plain octets (plain_text octets are))
+    (bare-plain octets (plain_text octets are))
     (ap (λ b. cond b (Ok octets) (Err BadUtf8) >>= λ template. short_value (DohPath template)) utf8
-        ∙ short_again (DohPath octets) few))
+    ∙ short_again (DohPath octets) few))
 
 -- ---- addresses
 
@@ -129,16 +129,18 @@ address_again : (address : List ℕ → Option (List ℕ)) (print : List ℕ →
     → address (print item) ≡ Some item → address_item address before (print item) ≡ Ok item
 address_again address print before item is read =
     ap (λ r. r >>= λ text. ok_or (address text) BadAddress) (item_again (print item) is)
-        ∙ ap (λ (o : Option (List ℕ)). ok_or o BadAddress) read
+    ∙ ap (λ (o : Option (List ℕ)). ok_or o BadAddress) read
 
 addresses_back : (address : List ℕ → Option (List ℕ)) (print : List ℕ → List ℕ)
     (before items : List (List ℕ)) → Each (λ item. IsItemText (print item)) items
     → Each (λ item. address (print item) ≡ Some item) items
-        → IsReadBack (address_item address) print before items
+    → IsReadBack (address_item address) print before items
 addresses_back address print before [] are read = tt
-addresses_back address print before (item ∷ items) are read =
-    (address_again address print before item are.0 read.0, addresses_back address print
-        (before ++ item ∷ []) items are.1 read.1)
+addresses_back address print before (item ∷ items) are read = (
+  address_again address print before item are.0 read.0,
+  addresses_back address print
+      (before ++ item ∷ []) items are.1 read.1,
+)
 
 pub octets-front : (front behind : List ℕ) → AreOctets (front ++ behind) → AreOctets front
     × AreOctets behind
@@ -161,35 +163,35 @@ pub ipv4hint_again : (address : List ℕ) (addresses : List (List ℕ))
     → Each (λ item. length item ≡ 4) (address ∷ addresses)
     → AreOctets (concat (address ∷ addresses))
     → length (concat (address ∷ addresses)) < 65536
-        → IsValueText (value_printed (Ipv4Hint (address ∷ addresses)))
-        (Ipv4Hint (address ∷ addresses))
+    → IsValueText (value_printed (Ipv4Hint (address ∷ addresses)))
+    (Ipv4Hint (address ∷ addresses))
 ipv4hint_again address addresses four are few =
     let each = each_octets (λ item. length item ≡ 4) (address ∷ addresses) four are in
     let texts = Each-map (IsAddress 4) (λ item. IsItemText (ipv4_text item)) (address ∷ addresses)
-        (λ item is. item-ipv4 item is.0 is.1) each in
+    (λ item is. item-ipv4 item is.0 is.1) each in
     let read = Each-map (IsAddress 4) (λ item. ipv4_of (ipv4_text item) ≡ Some item)
-        (address ∷ addresses) (λ item is. ipv4_again item is.0 is.1) each in
+    (address ∷ addresses) (λ item is. ipv4_again item is.0 is.1) each in
     items_again (codes "ipv4hint") ipv4_text ipv4_text address addresses
-        (Ipv4Hint (address ∷ addresses)) refl (bare-items ipv4_text (address ∷ addresses) texts)
+    (Ipv4Hint (address ∷ addresses)) refl (bare-items ipv4_text (address ∷ addresses) texts)
     (list_again (address_item ipv4_of) ipv4_text Ipv4Hint address addresses texts
-        (addresses_back ipv4_of ipv4_text [] (address ∷ addresses) texts read) few)
+    (addresses_back ipv4_of ipv4_text [] (address ∷ addresses) texts read) few)
 
 pub ipv6hint_again : (address : List ℕ) (addresses : List (List ℕ))
     → Each (λ item. length item ≡ 16) (address ∷ addresses)
     → AreOctets (concat (address ∷ addresses))
     → length (concat (address ∷ addresses)) < 65536
-        → IsValueText (value_printed (Ipv6Hint (address ∷ addresses)))
-        (Ipv6Hint (address ∷ addresses))
+    → IsValueText (value_printed (Ipv6Hint (address ∷ addresses)))
+    (Ipv6Hint (address ∷ addresses))
 ipv6hint_again address addresses sixteen are few =
     let each = each_octets (λ item. length item ≡ 16) (address ∷ addresses) sixteen are in
     let texts = Each-map (IsAddress 16) (λ item. IsItemText (ipv6_text item)) (address ∷ addresses)
-        (λ item is. item-ipv6 item is.0 is.1) each in
+    (λ item is. item-ipv6 item is.0 is.1) each in
     let read = Each-map (IsAddress 16) (λ item. ipv6_of (ipv6_text item) ≡ Some item)
-        (address ∷ addresses) (λ item is. ipv6_again item is.0 is.1) each in
+    (address ∷ addresses) (λ item is. ipv6_again item is.0 is.1) each in
     items_again (codes "ipv6hint") ipv6_text ipv6_text address addresses
-        (Ipv6Hint (address ∷ addresses)) refl (bare-items ipv6_text (address ∷ addresses) texts)
+    (Ipv6Hint (address ∷ addresses)) refl (bare-items ipv6_text (address ∷ addresses) texts)
     (list_again (address_item ipv6_of) ipv6_text Ipv6Hint address addresses texts
-        (addresses_back ipv6_of ipv6_text [] (address ∷ addresses) texts read) few)
+    (addresses_back ipv6_of ipv6_text [] (address ∷ addresses) texts read) few)
 
 -- ---- numbers, none twice
 
@@ -199,15 +201,17 @@ numbers_back : (P : ℕ → Type 0) (rule : List ℕ → List ℕ → Result ℕ
     → (before numbers : List ℕ) → AllNew (IsNew P) before numbers
     → IsReadBack rule print before numbers
 numbers_back P rule print reads before [] new = tt
-numbers_back P rule print reads before (n ∷ numbers) new =
-    (reads before n new.0.0 new.0.1, numbers_back P rule print reads
-        (before ++ n ∷ []) numbers new.1)
+numbers_back P rule print reads before (n ∷ numbers) new = (
+  reads before n new.0.0 new.0.1,
+  numbers_back P rule print reads
+      (before ++ n ∷ []) numbers new.1,
+)
 
 group_again : (before : List ℕ) (n : ℕ) → n < 65536 → is_in before n ≡ false
     → group_item before (decimal n) ≡ Ok n
 group_again before n small new =
     ap (λ r. r >>= λ text. ok_or (spelled_number (2 ^ 16) text) BadNumber >>= new_item before)
-        (item_again (decimal n) (item-decimal n (omega arith)))
+    (item_again (decimal n) (item-decimal n (omega arith)))
     ∙ ap (λ (o : Option ℕ). ok_or o BadNumber >>= new_item before)
     (spelled_number-decimal 65536 n small (omega arith))
     ∙ new_again before n new
@@ -215,16 +219,16 @@ group_again before n small new =
 pub groups_again : (group : ℕ) (groups : List ℕ) → Each (λ n. n < 65536) (group ∷ groups)
     → are_distinct (group ∷ groups) ≡ true
     → length (encode (TlsSupportedGroups (group ∷ groups))) < 65536
-        → IsValueText (value_printed (TlsSupportedGroups (group ∷ groups)))
-        (TlsSupportedGroups (group ∷ groups))
+    → IsValueText (value_printed (TlsSupportedGroups (group ∷ groups)))
+    (TlsSupportedGroups (group ∷ groups))
 groups_again group groups small distinct few =
     let texts = Each-map (λ n. n < 65536) (λ n. IsItemText (decimal n)) (group ∷ groups)
-        (λ n lt. item-decimal n (omega arith)) small in
+    (λ n lt. item-decimal n (omega arith)) small in
     items_again (codes "tls-supported-groups") decimal decimal group groups
-        (TlsSupportedGroups (group ∷ groups)) refl (bare-items decimal (group ∷ groups) texts)
+    (TlsSupportedGroups (group ∷ groups)) refl (bare-items decimal (group ∷ groups) texts)
     (list_again group_item decimal TlsSupportedGroups group groups texts
     (numbers_back (λ n. n < 65536) group_item decimal group_again [] (group ∷ groups)
-        (distinct-all_new (λ n. n < 65536) (group ∷ groups) small distinct)) few)
+    (distinct-all_new (λ n. n < 65536) (group ∷ groups) small distinct)) few)
 
 -- ---- keys
 
@@ -237,7 +241,7 @@ mandatory_again before key listed new =
     let above : 0 < key = listed.0 in
     let other : (key == 0) ≡ false = grind (arith, nat_tests) in
     ap (λ r. r >>= λ text. ok_or (spelled_key parameter_keys text) UnknownKey
-        >>= λ key. other_key key >>= new_item before)
+    >>= λ key. other_key key >>= new_item before)
     (item_again (key_name key) (item-key_name key listed.1))
     ∙ ap (λ (o : Option ℕ). ok_or o UnknownKey >>= λ key. other_key key >>= new_item before)
     (spelled_key-printed_key parameter_keys refl key listed.1)
@@ -262,7 +266,7 @@ ascends_new n [] ascends = refl
 ascends_new n (key ∷ keys) ascends =
     let parts = and_parts (nat_lt n key) (ascends_above key keys) ascends in
     or_false (key == n) (is_in keys n) (above_other n key parts.0)
-        (ascends_new n keys (ascends_lower n key keys parts.0 parts.1))
+    (ascends_new n keys (ascends_lower n key keys parts.0 parts.1))
 
 -- keys that ascend are distinct
 ascends_distinct : (least : ℕ) (keys : List ℕ) → ascends_above least keys ≡ true
@@ -271,7 +275,7 @@ ascends_distinct least [] ascends = refl
 ascends_distinct least (key ∷ keys) ascends =
     let parts = and_parts (nat_lt least key) (ascends_above key keys) ascends in
     and_from (not (is_in keys key)) (are_distinct keys) (ap not (ascends_new key keys parts.1))
-        (ascends_distinct key keys parts.1)
+    (ascends_distinct key keys parts.1)
 
 ascends_first : (n m : ℕ) → nat_lt n m ≡ true → nat_le n m ≡ true
 ascends_first n m above = grind (arith, nat_tests)
@@ -304,17 +308,17 @@ listed_keys least (key ∷ keys) small ascends =
 pub mandatory_value_again : (key : ℕ) (keys : List ℕ) → Each (λ key. key < 65536) (key ∷ keys)
     → ascends_above 0 (key ∷ keys) ≡ true
     → length (encode (Mandatory (key ∷ keys))) < 65536
-        → IsValueText (value_printed (Mandatory (key ∷ keys))) (Mandatory (key ∷ keys))
+    → IsValueText (value_printed (Mandatory (key ∷ keys))) (Mandatory (key ∷ keys))
 mandatory_value_again key keys small ascends few =
     let in_order : in_ascending_order (key ∷ keys) ≡ key ∷ keys =
-        ascending_again 0 (key ∷ keys) ascends in
+    ascending_again 0 (key ∷ keys) ascends in
     let listed = listed_keys 0 (key ∷ keys) small ascends in
     let texts = Each-map IsListedKey (λ n. IsItemText (key_name n)) (key ∷ keys)
-        (λ n is. item-key_name n is.1) listed in
+    (λ n is. item-key_name n is.1) listed in
     items_again (codes "mandatory") key_name key_name key keys (Mandatory (key ∷ keys)) refl
-        (bare-items key_name (key ∷ keys) texts)
+    (bare-items key_name (key ∷ keys) texts)
     (list_again mandatory_item key_name (λ (ns : List ℕ). Mandatory (in_ascending_order ns)) key
-        keys texts
+    keys texts
     (numbers_back IsListedKey mandatory_item key_name mandatory_again [] (key ∷ keys)
     (distinct-all_new IsListedKey (key ∷ keys) listed (ascends_distinct 0 (key ∷ keys) ascends)))
     (subst (λ (ns : List ℕ). length (encode (Mandatory ns)) < 65536) (sym in_order) few)

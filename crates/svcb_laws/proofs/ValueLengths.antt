@@ -85,9 +85,9 @@ utf8-length : (octets : List ℕ) → length (utf8_or_printed octets) ≤ 4 * le
 utf8-length octets =
     elim (is_utf8 octets) as
     (λ plain. length (cond plain octets (printed_octets octets)) ≤ 4 * length octets) [
-  | true ↦ omega arith
-  | false ↦ octets-length octets
-]
+      | true ↦ omega arith
+      | false ↦ octets-length octets
+    ]
 
 value-length : (value : Value) → HasItems value → AreOctets (encode value)
     → length (value_printed value) ≤ 21 + 11 * length (encode value)
@@ -132,11 +132,11 @@ pub pair-length : (pairs : Pairs) (pair : Pair) → pair.0 < 65536 → length pa
 pair-length pairs pair small few are =
     let value = value_in pair.0 pair.1 in
     let found : IsIn pair.0 pair.1 value =
-        values_in_octets pair.0 pair.1 small few (each_octet pair.1 are) in
+    values_in_octets pair.0 pair.1 small few (each_octet pair.1 are) in
     let typed = value-length value found.0.0 (subst AreOctets (sym found.2) are) in
     elim (has_own_text pairs value) as
-        (λ own. length (cond own (value_printed value) (opaque_text pair.0 pair.1))
-        ≤ 21 + 11 * length pair.1) [
+    (λ own. length (cond own (value_printed value) (opaque_text pair.0 pair.1))
+    ≤ 21 + 11 * length pair.1) [
       | true ↦ subst (λ octets. length (value_printed value) ≤ 21 + 11 * length octets) found.2
           typed
       | false ↦ opaque-length pair.0 pair.1 small

@@ -32,13 +32,13 @@ pub typed_again : TypedReadBack
 typed_again pairs (Mandatory []) is are own = absurd cc
 typed_again pairs (Mandatory (key ∷ keys)) is are own =
     let ascends =
-        (and_parts (ascends_above 0 (key ∷ keys)) (list_all (holds_key pairs) (key ∷ keys)) own).0
-        in
+    (and_parts (ascends_above 0 (key ∷ keys)) (list_all (holds_key pairs) (key ∷ keys)) own).0
+    in
     mandatory_value_again key keys is.0 ascends is.1
 typed_again pairs (Alpn []) is are own = absurd cc
 typed_again pairs (Alpn (protocol ∷ protocols)) is are own =
     alpn_again protocol protocols (are_protocols (protocol ∷ protocols) is.0 own)
-        (protocols_octets (protocol ∷ protocols) are) is.1
+    (protocols_octets (protocol ∷ protocols) are) is.1
 typed_again pairs NoDefaultAlpn is are own = no_default_alpn_again
 typed_again pairs (Port port) is are own = port_again port is.0
 typed_again pairs (Ipv4Hint []) is are own = absurd cc

@@ -41,7 +41,7 @@ HaveOctets pairs = Each (λ pair. AreOctets pair.1) pairs
 abbrev pub PairReadBack : Type 0
 PairReadBack = (pairs : Pairs) (pair : Pair) → IsMap pairs → HaveOctets pairs → Contains pairs pair
     → (value : Value) × IsValueText (pair_printed pairs pair) value × (key_of value ≡ pair.0)
-        × (encode value ≡ pair.1)
+    × (encode value ≡ pair.1)
 
 -- each text is wholly that of its token
 abbrev pub AreTextsOfTokens : List (List ℕ) → List (List Symbol) → Type 0
@@ -56,13 +56,13 @@ abbrev pub ParamsReadBack : Type 0
 ParamsReadBack = (pairs : Pairs) → IsMap pairs → HaveOctets pairs
     → (front tokens : List (List Symbol))
     → AreTextsOfTokens (pair_texts pairs) tokens
-        → params (front ++ tokens) (length front) ≡ done pairs (length front + length tokens)
+    → params (front ++ tokens) (length front) ≡ done pairs (length front + length tokens)
 
 -- the text of a map has tokens, and they spell exactly that map
 abbrev pub ParamsTextReadBack : Type 0
 ParamsTextReadBack = (pairs : Pairs) → IsMap pairs → HaveOctets pairs
     → (tokens : List (List Symbol)) × HasTokens (params_printed pairs) tokens
-        × (params tokens 0 ≡ done pairs (length tokens))
+    × (params tokens 0 ≡ done pairs (length tokens))
 
 -- Tokens that spell a map spell the same map in any other order, and all of them are taken.
 abbrev pub AnyTokenOrder : Type 0
@@ -83,8 +83,8 @@ HasNoComma text = Each (λ c. c ≢ 44) text
 abbrev pub CommaItemsExact : Type 0
 CommaItemsExact = (text : List ℕ) (items : List (List ℕ))
     → (comma_items text ≡ items)
-        ↔ (Each HasNoComma items × (text ≡ join_with_byte 44 items)
-        × (0 < length items → 0 < length text))
+    ↔ (Each HasNoComma items × (text ≡ join_with_byte 44 items)
+    × (0 < length items → 0 < length text))
 
 -- no octet of the text is a backslash
 abbrev pub HasNoBackslash : List ℕ → Type 0
@@ -113,7 +113,7 @@ IsShort made value = (value ≡ made) × (length (encode made) < 65536)
 abbrev pub MandatoryExact : Type 0
 MandatoryExact = (text : List ℕ) (value : Value) → (value_of_text 0 text ≡ Ok value)
     ↔ ((keys : List ℕ) × IsListOf (spelled_key parameter_keys) text keys
-        × Each (λ key. 0 < key) keys × (are_distinct keys ≡ true)
+    × Each (λ key. 0 < key) keys × (are_distinct keys ≡ true)
     × IsShort (Mandatory (in_ascending_order keys)) value)
 
 -- a text spells addresses under a key exactly where its items do
@@ -129,7 +129,7 @@ HintsExact = HintExact 4 ipv4_of Ipv4Hint × HintExact 6 ipv6_of Ipv6Hint
 abbrev pub GroupsExact : Type 0
 GroupsExact = (text : List ℕ) (value : Value) → (value_of_text 9 text ≡ Ok value)
     ↔ ((groups : List ℕ) × IsListOf (spelled_number (2 ^ 16)) text groups
-        × (are_distinct groups ≡ true) × IsShort (TlsSupportedGroups groups) value)
+    × (are_distinct groups ≡ true) × IsShort (TlsSupportedGroups groups) value)
 
 -- ---- protocols, whole
 

@@ -19,7 +19,7 @@ octets_len : {X : Type 0} (f : X → List ℕ) (len : ℕ) (xs : List X)
 octets_len f len [] are = sym (zero-mul len)
 octets_len f len (x ∷ xs) are =
     length-append (f x) (flat_map f xs) ∙ ap (λ n. n + length (flat_map f xs)) are.0
-        ∙ ap (λ n. len + n) (octets_len f len xs are.1)
+    ∙ ap (λ n. len + n) (octets_len f len xs are.1)
     ∙ add_comm len (length xs * len) ∙ sym (suc-mul (length xs) len)
 
 -- they are whole items, and few enough where the items are
@@ -47,7 +47,7 @@ pub groups_sound : (octets ns : List ℕ) → octets ≡ flat_map be2 ns → 0 <
     → (length octets % 2 == 0) ≡ true → length octets < 65536 → is_none (groups_fault octets) ≡ true
 groups_sound octets ns is not_empty whole few =
     let full : (length octets == 0) ≡ false =
-        grind (arith, nat_tests, ap length is, length-numbers_wire ns) in
+    grind (arith, nat_tests, ap length is, length-numbers_wire ns) in
     rw full (parts_sound 2 octets whole few)
 
 -- octets of numbers are read as these numbers
@@ -64,7 +64,7 @@ pub addresses_read : (len : ℕ) (octets : List ℕ) (addresses : List (List ℕ
     → parts len octets ≡ addresses
 addresses_read len octets addresses are not_empty =
     ap (parts len) (are.joined ∙ sym (concat_is addresses))
-        ∙ parts-concat len addresses not_empty are.each
+    ∙ parts-concat len addresses not_empty are.each
 
 -- a value of numbers, and one of addresses
 pub ruleset numbers_built = (numbers_read, numbers_written, parts_sound, groups_sound)
@@ -84,7 +84,7 @@ pub pushed_protocols : (octets after protocol : List ℕ) → AreProtocols octet
     → protocols after ≡ protocols octets ++ protocol ∷ []
 pushed_protocols octets after protocol are is =
     ap protocols (is ∙ added octets protocol are)
-        ∙ protocols-protocols_wire (protocols octets ++ protocol ∷ [])
+    ∙ protocols-protocols_wire (protocols octets ++ protocol ∷ [])
 
 pub pushed_are : (octets after protocol : List ℕ) → AreProtocols octets
     → length octets + 1 + length protocol ≤ 65535 → after ≡ octets ++ length protocol ∷ protocol

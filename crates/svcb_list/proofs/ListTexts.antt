@@ -33,7 +33,7 @@ pub one_more : (front item rest : List ℕ)
 one_more front item rest =
     append_assoc (front ++ 44 ∷ []) item rest ∙ append_assoc front (44 ∷ []) (item ++ rest)
 
--- a front of the whole text is written, and the rest is not yet
+-- a prefix of the whole text is written, and the rest is not yet
 pub record WritesFront {W : Type 0} (took : W → List ℕ → W → Type 0) (f g : Formatter W)
     (whole rest : List ℕ) : Type 0 where
   pub text : List ℕ

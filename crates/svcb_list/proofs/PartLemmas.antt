@@ -25,8 +25,8 @@ pub parts_left : (len : ℕ) (octets : List ℕ) → 0 < len → 0 < length octe
     → (length octets % len == 0) ≡ true → (length (drop len octets) % len == 0) ≡ true
 parts_left len octets some full whole =
     whole_is (length (drop len octets)) len
-        (ap (λ n. n % len) (length-drop len octets)
-        ∙ (whole_parts len (length octets) some full (is_whole (length octets) len whole)).1)
+    (ap (λ n. n % len) (length-drop len octets)
+    ∙ (whole_parts len (length octets) some full (is_whole (length octets) len whole)).1)
 
 pub first_part : (len : ℕ) (octets : List ℕ) → 0 < len → 0 < length octets
     → parts len octets ≡ take len octets ∷ parts len (drop len octets)

@@ -19,8 +19,8 @@ protocol_fits (len ∷ others) full whole = omega (arith, are_whole-fits len oth
 
 pub first_protocol : (octets : List ℕ) → 0 < length octets
     → protocols octets
-        ≡ take (slice_index octets 0) (drop 1 octets)
-        ∷ protocols (drop (slice_index octets 0) (drop 1 octets))
+    ≡ take (slice_index octets 0) (drop 1 octets)
+    ∷ protocols (drop (slice_index octets 0) (drop 1 octets))
 first_protocol [] full = absurd (omega arith)
 first_protocol (len ∷ others) full = protocols-first (len ∷ others) others len refl
 

@@ -42,9 +42,9 @@ impl AlpnBuilder {
         }
     }
 
-    /// Adds a protocol behind the others. Refused as `InvalidProtocol` exactly for no octets or more than 255 (RFC 7301,
-    /// section 3.1); then as `LongSvcParam` exactly where the value would have more than 65,535 octets; else for want of
-    /// memory alone. A refused push leaves the builder as it was.
+    /// Adds a protocol behind the others. Refused as `InvalidProtocol` exactly for no octets or more than 255 (RFC
+    /// 7301, section 3.1); then as `LongSvcParam` exactly where the value would have more than 65,535 octets; else when
+    /// allocation fails alone. A refused push leaves the builder as it was.
     pub fn push(&mut self, protocol: &[u8]) -> Result<(), BuildAlpnError>
         ensures answer { IsPushed result (length (protocols_wire self.old)) (length protocol.now) }
         ensures ok { OnOk result (self.new ≡ self.old ++ protocol.now ∷ []) }
@@ -68,7 +68,7 @@ impl AlpnBuilder {
         ItemList::from_checked_octets(Octets::from_vec(octets))
     }
 
-    /// A copy, which may grow too. Refused for want of memory alone.
+    /// A copy, which may grow too. Fails only with `NoMemory`.
     pub fn try_clone(&self) -> Result<AlpnBuilder, NoMemory>
         ensures { IfOk result (λ builder. builder ≡ self.now) }
     {

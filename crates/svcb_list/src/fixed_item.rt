@@ -21,7 +21,7 @@ pub(crate) trait FixedItem: Copy {
     /// The count of an item's octets.
     const LEN: usize;
 
-    /// Appends the item's octets. Refused only for want of memory.
+    /// Appends the item's octets. Refused only when allocation fails.
     fn append(self, target: &mut Vec<u8>) -> Result<(), NoMemory>
         ensures ok { OnOk result (target.new.items ≡ target.old.items ++ octets self) }
         ensures len { OnOk result (length (octets self) ≡ LEN) };
@@ -64,8 +64,8 @@ impl<const N: usize> FixedItem for Address<N> {
     }
 }
 
-/// The octets of items in order. Refused as `LongSvcParam` exactly where they are more than 65,535, and else only for
-/// want of memory.
+/// The octets of items in order. Refused as `LongSvcParam` exactly where they are more than 65,535, and else only when
+/// allocation fails.
 pub(crate) fn compose_items<I: FixedItem>(
     alloc: Global,
     items: &[I],

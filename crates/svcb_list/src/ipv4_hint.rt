@@ -34,7 +34,7 @@ pub type Ipv4HintIter<'a> = ItemIter<'a, Ipv4HintType>;
 
 impl Ipv4Hint {
     /// The value of a list of addresses. Refused as `LongSvcParam` exactly over 65,535 octets, which is over 16,383
-    /// addresses, else for want of memory alone.
+    /// addresses, else only when allocation fails.
     #[tactic(auto, using(crate::proofs::BuildLemmas::addresses_built))]
     pub fn from_addrs(alloc: Global, addrs: &[Ipv4Addr]) -> Result<Ipv4Hint, BuildValueError>
         ensures value { IfOk result (λ list. list ≡ values.Ipv4Hint addrs.now) }

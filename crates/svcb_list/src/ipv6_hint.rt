@@ -34,7 +34,7 @@ pub type Ipv6HintIter<'a> = ItemIter<'a, Ipv6HintType>;
 
 impl Ipv6Hint {
     /// The value of a list of addresses. Refused as `LongSvcParam` exactly over 65,535 octets, which is over 4,095
-    /// addresses, else for want of memory alone.
+    /// addresses, else only when allocation fails.
     #[tactic(auto, using(crate::proofs::BuildLemmas::addresses_built))]
     pub fn from_addrs(alloc: Global, addrs: &[Ipv6Addr]) -> Result<Ipv6Hint, BuildValueError>
         ensures value { IfOk result (λ list. list ≡ values.Ipv6Hint addrs.now) }

@@ -78,7 +78,7 @@ impl<T: ListType> ItemList<T> {
     }
 
     /// The value that all octets before the end of the data are. Refused by their first fault, as `Form` or
-    /// `ShortInput`, and else only for want of memory; the parser then stays.
+    /// `ShortInput`, and else only when allocation fails; the parser then stays.
     pub fn parse(alloc: Global, parser: &mut Parser<'_>) -> Result<ItemList<T>, ParseError>
         ensures answer { GivesCopy (taking_all (octets_left parser.old)) result
             (whole_value T.fault T.value (octets_left parser.old)) }
@@ -120,7 +120,7 @@ impl<T: ListType> ItemList<T> {
         }
     }
 
-    /// A copy. Refused for want of memory alone.
+    /// A copy. Fails only with `NoMemory`.
     pub fn try_clone(&self, alloc: Global) -> Result<ItemList<T>, NoMemory>
         ensures { IfOk result (λ list. list ≡ self.now) }
     {
@@ -136,8 +136,8 @@ impl<T: ListType> ItemList<T> {
 }
 
 impl<'a, T: ListType> ItemListRef<'a, T> {
-    /// A view of the value that octets are. Refused by their first fault, as `Form` or `ShortInput`, and never for want
-    /// of memory.
+    /// A view of the value that octets are. Refused by their first fault, as `Form` or `ShortInput`, and never when
+    /// allocation fails.
     pub fn from_slice(slice: &'a [u8]) -> Result<ItemListRef<'a, T>, ParseError>
         ensures answer { Gives (λ view. taking_all slice.now (T.value view.slice.now)) result
             (whole_value T.fault T.value slice.now) }
@@ -151,7 +151,7 @@ impl<'a, T: ListType> ItemListRef<'a, T> {
     }
 
     /// A view of the value that all octets before the end of the data are. Refused by their first fault, as `Form` or
-    /// `ShortInput`, and never for want of memory; the parser then stays.
+    /// `ShortInput`, and never with `NoMemory`; the parser then stays.
     pub fn parse(parser: &mut Parser<'a>) -> Result<ItemListRef<'a, T>, ParseError>
         ensures answer { Gives (λ view. taking_all (octets_left parser.old) (T.value view.slice.now))
             result (whole_value T.fault T.value (octets_left parser.old)) }
@@ -172,7 +172,7 @@ impl<'a, T: ListType> ItemListRef<'a, T> {
         self.slice
     }
 
-    /// The same value with octets of its own. Refused for want of memory alone.
+    /// The same value with octets of its own. Fails only with `NoMemory`.
     pub fn to_owned_data(&self, alloc: Global) -> Result<ItemList<T>, NoMemory>
         ensures value { IfOk result (λ list. list ≡ T.value self.now.slice.now) }
         ensures encodes { IfOk result (λ list. encode list ≡ self.now.slice.now) }

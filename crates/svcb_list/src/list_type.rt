@@ -34,8 +34,8 @@ pub trait ListType {
     fn key() -> SvcParamKey
         ensures { result ≡ key };
 
-    /// Tests octets that are to be a value. Refused by their first fault, as `Form` or `ShortInput`, and never for want
-    /// of memory.
+    /// Tests octets that are to be a value. Refused by their first fault, as `Form` or `ShortInput`, and never when
+    /// allocation fails.
     fn check(octets: &[u8]) -> Result<(), ParseError>
         ensures answer { Gives (λ _. taking_all octets.now (value octets.now)) result
             (whole_value fault value octets.now) }

@@ -31,8 +31,8 @@ pub type MandatoryRef<'a> = ItemListRef<'a, MandatoryType>;
 pub type MandatoryIter<'a> = ItemIter<'a, MandatoryType>;
 
 impl Mandatory {
-    /// The value of a list of keys. Refused as `LongSvcParam` exactly over 65,535 octets, which is over 32,767 keys, else
-    /// for want of memory alone.
+    /// The value of a list of keys. Refused as `LongSvcParam` exactly over 65,535 octets, which is over 32,767 keys,
+    /// else only when allocation fails.
     #[tactic(auto, using(crate::proofs::BuildLemmas::numbers_built))]
     pub fn from_keys(alloc: Global, keys: &[SvcParamKey]) -> Result<Mandatory, BuildValueError>
         ensures value { IfOk result (λ list. list ≡ values.Mandatory keys.now) }

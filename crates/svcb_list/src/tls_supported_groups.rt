@@ -32,8 +32,8 @@ pub type TlsSupportedGroupsRef<'a> = ItemListRef<'a, TlsSupportedGroupsType>;
 pub type TlsSupportedGroupsIter<'a> = ItemIter<'a, TlsSupportedGroupsType>;
 
 impl TlsSupportedGroups {
-    /// The value of a list of groups. Refused as `EmptyValue` exactly for no groups; then as `LongSvcParam` exactly over
-    /// 65,535 octets, which is over 32,767 groups; else for want of memory alone.
+    /// The value of a list of groups. Refused as `EmptyValue` exactly for no groups; then as `LongSvcParam` exactly
+    /// over 65,535 octets, which is over 32,767 groups; else only when allocation fails.
     #[tactic(auto, using(crate::proofs::BuildLemmas::numbers_built))]
     pub fn from_keys(alloc: Global, keys: &[u16]) -> Result<TlsSupportedGroups, BuildValueError>
         ensures value { IfOk result (λ list. list ≡ values.TlsSupportedGroups keys.now) }

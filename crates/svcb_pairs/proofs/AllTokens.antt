@@ -80,7 +80,7 @@ module _ (began before after : Scan) (entries entries' : Entries)
     refused_here fault is =
         ap (λ scanned. scan_then scanned made_of)
         (stands ∙ ap
-            (after_next so_far.values (drop (suc before.taken) before.tokens) before.taken) is)
+        (after_next so_far.values (drop (suc before.taken) before.tokens) before.taken) is)
 
     answered : (fault : ScanError) → Kept so_far.values read entries' (Err fault)
         → Answers view (Err fault) (params began.tokens began.taken).outcome
@@ -129,9 +129,9 @@ module _ (began now : Scan) (entries : Entries) (so_far : SoFar began now entrie
       (refused MandatoryMissing now.taken)
   all_read =
       ap (λ scanned. scan_then scanned made_of)
-          (so_far.left
-          ∙ ap (λ (left : List (List Symbol)). values_at so_far.values left now.taken)
-          (drop_all now.tokens now.taken past))
+      (so_far.left
+      ∙ ap (λ (left : List (List Symbol)). values_at so_far.values left now.taken)
+      (drop_all now.tokens now.taken past))
       ∙ ap (λ b. cond b (done (map_of so_far.values) now.taken)
       (refused MandatoryMissing now.taken)) (mandatory-held so_far.values entries so_far.holds)
       ∙ ap (λ (pairs : Pairs). cond (has_mandatory entries) (done pairs now.taken)
@@ -148,8 +148,8 @@ module _ (began now : Scan) (entries : Entries) (so_far : SoFar began now entrie
     all-missing missing =
         let is : params began.tokens began.taken ≡ refused MandatoryMissing now.taken =
         all_read ∙ ap
-            (λ b. cond b (done (pairs_of entries) now.taken) (refused MandatoryMissing now.taken))
-            missing in
+        (λ b. cond b (done (pairs_of entries) now.taken) (refused MandatoryMissing now.taken))
+        missing in
         record {
           answer = ap (λ (scanned : Scanned Pairs). scanned.outcome) is;
           place = sym (ap (λ (scanned : Scanned Pairs). scanned.place) is);
@@ -168,8 +168,8 @@ module _ (began now : Scan) (entries : Entries) (so_far : SoFar began now entrie
     all-read there =
         let is : params began.tokens began.taken ≡ done (pairs_of entries) now.taken =
         all_read ∙ ap
-            (λ b. cond b (done (pairs_of entries) now.taken) (refused MandatoryMissing now.taken))
-            there in
+        (λ b. cond b (done (pairs_of entries) now.taken) (refused MandatoryMissing now.taken))
+        there in
         record {
           answer = ap (λ (scanned : Scanned Pairs). scanned.outcome) is
               ∙ ap Ok (sym (written_pairs (pairs_of entries) octets so_far.holds.is_map is_wire));

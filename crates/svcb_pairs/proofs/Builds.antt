@@ -32,7 +32,7 @@ pub is_grown : (pairs pairs' : Pairs) (len limit key grown : ℕ) (value : List 
     → IsBuilderState pairs len limit → key < 65536 → length value < 65536
     → value_at pairs key ≡ None
     → pairs' ≡ insert_entry nat_cmp pairs key value → grown ≡ len + 4 + length value
-        → grown ≤ limit → IsBuilderState pairs' grown limit
+    → grown ≤ limit → IsBuilderState pairs' grown limit
 is_grown pairs pairs' len limit key grown value builder in_range fits absent is counted within =
     let longer = length-wire-insert pairs key value builder.is_map in_range fits absent in
     rw is

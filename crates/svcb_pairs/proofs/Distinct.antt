@@ -72,7 +72,7 @@ module _ (words more : List ℕ) (n : ℕ)
   not_met_more [] = refl
   not_met_more (m ∷ numbers) =
       let added : has_number more m ≡ ((m == n) || has_number words m) =
-          adds m ∙ ap (λ b. b || has_number words m) (test_swap n m) in
+      adds m ∙ ap (λ b. b || has_number words m) (test_swap n m) in
       ap (λ b. not b && not_met more numbers) added
       ∙ ap (λ b. not ((m == n) || has_number words m) && b) (not_met_more numbers)
       ∙ two_tests (m == n) (has_number words m) (list_any (λ m. m == n) numbers)

@@ -16,7 +16,7 @@ nothing_yet old items = record { ok = refl; err = λ new stops. stops; kind = re
 pub next_laid : (old : Sheet) (items : List Item) (now : Sheet) (item : Item) (rest : List Item)
     (new : Sheet)
     → LaysOut old items now (item ∷ rest) → new ≡ laid_out now (item ∷ [])
-        → LaysOut old items new rest
+    → LaysOut old items new rest
 next_laid old items now item rest new lays is =
     let next : LaysOut old items (laid_out now (item ∷ [])) rest = record {
       ok = lays.ok;

@@ -28,12 +28,12 @@ stands_first octets pair pairs is =
     let front : List ℕ = be2 key ++ be2 (length value) in
     let all : drop 0 octets ≡ front ++ (value ++ rest) = is ∙ append_assoc front value rest in
     let at_len : drop 2 octets ≡ be2 (length value) ++ (value ++ rest) =
-        drop-behind octets (be2 key) (be2 (length value) ++ (value ++ rest)) 0 all in
+    drop-behind octets (be2 key) (be2 (length value) ++ (value ++ rest)) 0 all in
     let at_value : drop 4 octets ≡ value ++ rest = drop-behind octets front (value ++ rest) 0 all in
     let at_rest : drop (4 + length value) octets ≡ rest = drop-behind octets value rest 4 at_value
-        in
+    in
     let long : length octets ≡ 4 + length value + length rest =
-        omega (arith, ap length is, length-append (front ++ value) rest) in
+    omega (arith, ap length is, length-append (front ++ value) rest) in
     record {
       key = number_at-be2 octets (be2 (length value) ++ (value ++ rest)) key 0 all;
       len = number_at-be2 octets (value ++ rest) (length value) 2 at_len;
@@ -58,9 +58,9 @@ module _ (octets : List ℕ) (number : ℕ) (held behind : List ℕ) where
       let first = stands_first octets pair pairs is in
       let len : length held ≡ length pair.1 = begins.len ∙ first.len in
       let value : held ≡ pair.1 =
-          begins.value ∙ ap (λ n. slice_range octets 4 (4 + n)) len ∙ first.value in
+      begins.value ∙ ap (λ n. slice_range octets 4 (4 + n)) len ∙ first.value in
       let rest : behind ≡ pairs_wire pairs =
-          begins.rest ∙ ap (λ n. slice_range octets (4 + n) (length octets)) len ∙ first.rest in
+      begins.rest ∙ ap (λ n. slice_range octets (4 + n) (length octets)) len ∙ first.rest in
       let up : IsMap pairs = Ascends-lower (pair.0 + 1) 0 pairs (omega arith) is_map.3 in
       record {
         first = ap (λ k. (k, pair.1) ∷ pairs) (sym (begins.key ∙ first.key))
@@ -75,8 +75,12 @@ module _ (octets : List ℕ) (number : ℕ) (held behind : List ℕ) where
     known = splits_off (pairs_in octets) (octets_are_wire octets are) are.is_map begins
 
     pub is_first : IsFirstPair octets number held behind
-    is_first = record { pairs = known.first; shorter = known.shorter; in_range = begins.in_range;
-        fits = begins.fits }
+    is_first = record {
+      pairs = known.first;
+      shorter = known.shorter;
+      in_range = begins.in_range;
+      fits = begins.fits;
+    }
 
     pub rest_are : IsParameters behind
     rest_are = known.rest
@@ -88,7 +92,7 @@ none_there octets (pair ∷ pairs) is short =
     let first = stands_first octets pair pairs is in
     let head : nat_lt (length octets) 4 ≡ false = grind (arith, nat_tests, first.long) in
     let value : nat_lt (length octets) (4 + number_at octets 2) ≡ false =
-        grind (arith, nat_tests, first.long, first.len) in
+    grind (arith, nat_tests, first.long, first.len) in
     absurd (let no = rw (head, value) at short in cc)
 
 -- where no pair is whole, there is none
@@ -100,8 +104,12 @@ no_pair octets are short = none_there octets (pairs_in octets) (octets_are_wire 
 pub few_pairs : (pairs : Pairs) → 4 * length pairs ≤ length (pairs_wire pairs)
 few_pairs [] = omega arith
 few_pairs (pair ∷ pairs) =
-    omega (arith, few_pairs pairs, length-append (be2 pair.0 ++ be2 (length pair.1) ++ pair.1)
-    (pairs_wire pairs))
+    omega (
+      arith,
+      few_pairs pairs,
+      length-append (be2 pair.0 ++ be2 (length pair.1) ++ pair.1)
+          (pairs_wire pairs),
+    )
 
 -- for the function that splits the first pair off
 pub ruleset first_pair_rules = (is_first, rest_are, no_pair)

@@ -17,7 +17,7 @@ none_below [] least key up low = refl
 none_below (pair ∷ pairs) least key up low =
     let apart : (pair.0 == key) ≡ false = grind (arith, nat_tests, up.0) in
     ap (λ b. b || holds_key pairs key) apart
-        ∙ none_below pairs (pair.0 + 1) key up.3 (omega (arith, up.0))
+    ∙ none_below pairs (pair.0 + 1) key up.3 (omega (arith, up.0))
 
 module _ (octets : List ℕ) (number : ℕ) (held behind : List ℕ)
     (first : IsFirstPair octets number held behind) where
@@ -30,9 +30,9 @@ module _ (octets : List ℕ) (number : ℕ) (held behind : List ℕ)
   not_here key are up =
       let apart : (number == key) ≡ false = grind (arith, nat_tests) in
       let none : holds_key (pairs_in behind) key ≡ false =
-          none_below (pairs_in behind) (number + 1) key (others_above are) (omega arith) in
+      none_below (pairs_in behind) (number + 1) key (others_above are) (omega arith) in
       ap (λ ps. holds_key ps key) first.pairs
-          ∙ ap (λ b. b || holds_key (pairs_in behind) key) apart ∙ none
+      ∙ ap (λ b. b || holds_key (pairs_in behind) key) apart ∙ none
 
   -- the first pair has its key
   pub is_here : (key : ℕ) → number ≡ key → holds_key (pairs_in octets) key ≡ true
@@ -46,7 +46,7 @@ module _ (octets : List ℕ) (number : ℕ) (held behind : List ℕ)
   passed_by above up =
       let apart : (number == above) ≡ false = grind (arith, nat_tests) in
       sym (ap (λ ps. holds_key ps above) first.pairs
-          ∙ ap (λ b. b || holds_key (pairs_in behind) above) apart)
+      ∙ ap (λ b. b || holds_key (pairs_in behind) above) apart)
 
 pub ruleset passing_rules = (not_here, is_here, passed_by)
 
@@ -74,7 +74,7 @@ module _ (pairs rest : Pairs) where
   behind_it : (key : ℕ) (keys : List ℕ)
       → ((above : ℕ) → key < above → holds_key rest above ≡ holds_key pairs above)
       → ascends_above key keys ≡ true
-          → list_all (holds_key pairs) keys ≡ list_all (holds_key rest) keys
+      → list_all (holds_key pairs) keys ≡ list_all (holds_key rest) keys
   behind_it key [] same up = refl
   behind_it key (next ∷ keys) same up =
       let parts = and_parts (nat_lt key next) (ascends_above next keys) up in

@@ -78,7 +78,7 @@ each-insert P key x (entry ∷ entries) absent here each = elim (cases_lt key en
       let apart = absent_first key entry entries absent in
       let higher : entry.0 < key = omega arith in
       rw (insert_behind key x entry entries higher)
-          (each.0, each-insert P key x entries (absent_rest key entry entries absent) here each.1)
+      (each.0, each-insert P key x entries (absent_rest key entry entries absent) here each.1)
 ]
 
 -- a test of all entries, one of a new key among them
@@ -135,20 +135,20 @@ module _ (p q : Pair) (apart : p.0 < q.0) where
     | inl q_higher ↦ elim (cases_lt other.0 p.0) [
       | inl p_higher ↦
           ap (insert_pair p) (pair_behind q other pairs q_higher)
-              ∙ pair_behind p other (insert_pair q pairs) p_higher
+          ∙ pair_behind p other (insert_pair q pairs) p_higher
           ∙ ap (λ (rest : Pairs). other ∷ rest) (two_pairs pairs)
           ∙ sym (ap (insert_pair q) (pair_behind p other pairs p_higher)
           ∙ pair_behind q other (insert_pair p pairs) q_higher)
       | inr p_most ↦
           ap (insert_pair p) (pair_behind q other pairs q_higher)
-              ∙ pair_before p other (insert_pair q pairs) p_most
+          ∙ pair_before p other (insert_pair q pairs) p_most
           ∙ sym (ap (insert_pair q) (pair_before p other pairs p_most)
           ∙ pair_behind q p (other ∷ pairs) apart
           ∙ ap (λ (rest : Pairs). p ∷ rest) (pair_behind q other pairs q_higher))
     ]
     | inr q_most ↦
         ap (insert_pair p) (pair_before q other pairs q_most)
-            ∙ pair_before p q (other ∷ pairs) (omega arith)
+        ∙ pair_before p q (other ∷ pairs) (omega arith)
         ∙ sym (ap (insert_pair q) (pair_before p other pairs (omega arith))
         ∙ pair_behind q p (other ∷ pairs) apart
         ∙ ap (λ (rest : Pairs). p ∷ rest) (pair_before q other pairs q_most))
@@ -170,7 +170,7 @@ pub map_of-append : (before : List Value) (value : Value) → has_key before (ke
 map_of-append [] value new = refl
 map_of-append (first ∷ before) value new =
     elim (key_of first == key_of value) as (λ b. (key_of first == key_of value) ≡ b
-        → (b || has_key before (key_of value)) ≡ false
+    → (b || has_key before (key_of value)) ≡ false
     → insert_pair (key_of first, encode first) (map_of (before ++ value ∷ []))
     ≡ insert_pair (key_of value, encode value) (map_of (first ∷ before))) [
       | true ↦ λ is none. absurd cc
@@ -213,14 +213,14 @@ module _ (key : ℕ) where
   some-map_of [] = refl
   some-map_of (value ∷ values) =
       some-insert (key_of value, encode value) (map_of values)
-          ∙ ap (λ b. (key_of value == key) || b) (some-map_of values)
+      ∙ ap (λ b. (key_of value == key) || b) (some-map_of values)
 
   pub some-pairs_of : (entries : Entries)
       → has_entry entries key ≡ is_some (value_at (pairs_of entries) key)
   some-pairs_of [] = refl
   some-pairs_of (entry ∷ entries) =
       elim (is_at (nat_cmp key) entry.0) as
-          (λ found. is_some (cond found (Some entry.1) (lookup (is_at (nat_cmp key)) entries))
+      (λ found. is_some (cond found (Some entry.1) (lookup (is_at (nat_cmp key)) entries))
       ≡ is_some (cond found (Some (encode (value_of entry.1))) (value_at (pairs_of entries) key))) [
         | true ↦ refl
         | false ↦ some-pairs_of entries
@@ -230,7 +230,7 @@ module _ (key : ℕ) where
 pub pairs_of-insert : (key : ℕ) (value : AllValues) (entries : Entries)
     → lookup (is_at (nat_cmp key)) entries ≡ None
     → pairs_of (insert_entry nat_cmp entries key value)
-        ≡ insert_entry nat_cmp (pairs_of entries) key (encode (value_of value))
+    ≡ insert_entry nat_cmp (pairs_of entries) key (encode (value_of value))
 pairs_of-insert key value [] absent = refl
 pairs_of-insert key value (entry ∷ entries) absent = elim (cases_lt key entry.0) [
   | inl below ↦

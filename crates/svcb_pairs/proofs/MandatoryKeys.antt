@@ -53,44 +53,44 @@ and_true true = refl
 and_true false = refl
 
 module _ (test : Value → Bool) (elsewhere : (value : Value) → key_of value ≢ 0 → test value ≡ true)
-    where
-  abbrev tested : ℕ × AllValues → Bool
-  tested entry = test (value_of entry.1)
+  where
+    abbrev tested : ℕ × AllValues → Bool
+    tested entry = test (value_of entry.1)
 
-  abbrev AreKeyed : Entries → Type 0
-  AreKeyed entries = Each (λ entry. entry.0 ≡ key_of (value_of entry.1)) entries
+    abbrev AreKeyed : Entries → Type 0
+    AreKeyed entries = Each (λ entry. entry.0 ≡ key_of (value_of entry.1)) entries
 
-  -- the test of a value under a key, where there is one
-  abbrev tested_at : Option AllValues → Bool
-  tested_at None = true
-  tested_at (Some value) = test (value_of value)
+    -- the test of a value under a key, where there is one
+    abbrev tested_at : Option AllValues → Bool
+    tested_at None = true
+    tested_at (Some value) = test (value_of value)
 
-  passes : (entry : ℕ × AllValues) → entry.0 ≡ key_of (value_of entry.1) → 0 ≢ entry.0
-      → tested entry ≡ true
-  passes entry is apart = elsewhere (value_of entry.1) (λ zero. apart (sym (is ∙ zero)))
+    passes : (entry : ℕ × AllValues) → entry.0 ≡ key_of (value_of entry.1) → 0 ≢ entry.0
+        → tested entry ≡ true
+    passes entry is apart = elsewhere (value_of entry.1) (λ zero. apart (sym (is ∙ zero)))
 
-  all_above : (least : ℕ) (entries : Entries) → 0 < least → AreKeyed entries
-      → Ascends least (pairs_of entries) → list_all tested entries ≡ true
-  all_above least [] some keyed up = refl
-  all_above least (entry ∷ entries) some keyed up =
-      let higher : 0 < entry.0 = omega (arith, up.0) in
-      ap₂ (λ (a b : Bool). a && b) (passes entry keyed.0 (λ zero. omega (arith, zero)))
-          (all_above (entry.0 + 1) entries (omega arith) keyed.1 up.3)
+    all_above : (least : ℕ) (entries : Entries) → 0 < least → AreKeyed entries
+        → Ascends least (pairs_of entries) → list_all tested entries ≡ true
+    all_above least [] some keyed up = refl
+    all_above least (entry ∷ entries) some keyed up =
+        let higher : 0 < entry.0 = omega (arith, up.0) in
+        ap₂ (λ (a b : Bool). a && b) (passes entry keyed.0 (λ zero. omega (arith, zero)))
+        (all_above (entry.0 + 1) entries (omega arith) keyed.1 up.3)
 
-  all_at_zero : (least : ℕ) (entries : Entries) → AreKeyed entries
-      → Ascends least (pairs_of entries)
-      → list_all tested entries ≡ tested_at (lookup (is_at (nat_cmp 0)) entries)
-  all_at_zero least [] keyed up = refl
-  all_at_zero least (entry ∷ entries) keyed up = elim (cases_eq 0 entry.0) [
-    | inl zero ↦
-        ap (λ b. tested entry && b) (all_above (entry.0 + 1) entries (omega arith) keyed.1 up.3)
-        ∙ and_true (tested entry)
-        ∙ sym (ap tested_at (first_found 0 entry entries zero))
-    | inr apart ↦
-        ap (λ b. b && list_all tested entries) (passes entry keyed.0 apart)
-        ∙ all_at_zero (entry.0 + 1) entries keyed.1 up.3
-        ∙ sym (ap tested_at (first_passed 0 entry entries apart))
-  ]
+    all_at_zero : (least : ℕ) (entries : Entries) → AreKeyed entries
+        → Ascends least (pairs_of entries)
+        → list_all tested entries ≡ tested_at (lookup (is_at (nat_cmp 0)) entries)
+    all_at_zero least [] keyed up = refl
+    all_at_zero least (entry ∷ entries) keyed up = elim (cases_eq 0 entry.0) [
+      | inl zero ↦
+          ap (λ b. tested entry && b) (all_above (entry.0 + 1) entries (omega arith) keyed.1 up.3)
+          ∙ and_true (tested entry)
+          ∙ sym (ap tested_at (first_found 0 entry entries zero))
+      | inr apart ↦
+          ap (λ b. b && list_all tested entries) (passes entry keyed.0 apart)
+          ∙ all_at_zero (entry.0 + 1) entries keyed.1 up.3
+          ∙ sym (ap tested_at (first_passed 0 entry entries apart))
+    ]
 
 same_tests : (test other : ℕ → Bool) → ((key : ℕ) → test key ≡ other key) → (keys : List ℕ)
     → list_all test keys ≡ list_all other keys
@@ -110,8 +110,9 @@ mandatory-held held entries holds =
     same : (found : Option AllValues)
         → tested_at (λ value. list_all (has_key held) (mandatory_keys value))
         (listed_nowhere (has_key held)) found
-        ≡ (elim found
-        [ None ↦ true | Some value ↦ list_all (has_entry entries) (mandatory_keys (value_of value))
+        ≡ (elim found [
+          | None ↦ true
+          | Some value ↦ list_all (has_entry entries) (mandatory_keys (value_of value))
         ])
     same None = refl
     same (Some value) =

@@ -34,13 +34,12 @@ is_read tokens place octets read =
         × ((one any_octets tokens place).place ≡ place + 1)
     both f =
         elim (slice_get tokens place) as
-            (λ found. (at_token place
-            (elim found [ None ↦ Err EndOfEntry | Some token ↦ any_octets token ])).outcome
-            ≡ Ok octets
+        (λ found. (at_token place
+        (elim found [ None ↦ Err EndOfEntry | Some token ↦ any_octets token ])).outcome
+        ≡ Ok octets
         → ((elim found [ None ↦ Err EndOfEntry | Some token ↦ f (octets_of token) ]) ≡ f octets)
         × ((at_token place
-        (elim found [ None ↦ Err EndOfEntry | Some token ↦ any_octets token ])).place ≡ place + 1))
-        [
+        (elim found [ None ↦ Err EndOfEntry | Some token ↦ any_octets token ])).place ≡ place + 1)) [
           | None ↦ λ is. absurd (no_octets EndOfEntry octets is)
           | Some token ↦ λ is. (ap f (same_octets (octets_of token) octets is), refl)
         ] read
@@ -48,7 +47,7 @@ is_read tokens place octets read =
 pub next_kept : (old mid new : Scan) (octets : List ℕ) (entries entries' : Entries)
     (result : Result (Unit {0}) ScanError)
     → Scans {T = List ℕ} (λ octets. octets) (one any_octets) old mid (Ok octets)
-        → KeepsToken octets entries entries' result
+    → KeepsToken octets entries entries' result
     → new ≡ record mid { taken = cond (is_ok result) mid.taken old.taken }
     → KeepsNext old new entries entries' result
 next_kept old mid new octets entries entries' result scanned keeps after =
@@ -73,7 +72,7 @@ after_next before tokens place (Ok value) = values_at (before ++ value ∷ []) t
 values_at-next : (before : List Value) (token : List Symbol) (tokens : List (List Symbol))
     (place : ℕ)
     → values_at before (token ∷ tokens) place
-        ≡ after_next before tokens place (next_value before (octets_of token))
+    ≡ after_next before tokens place (next_value before (octets_of token))
 values_at-next before token tokens place = by_spelled (spells (octets_of token))
   where
     by_key : (value : Value) (old : Bool)
@@ -95,8 +94,8 @@ values_at-next before token tokens place = by_spelled (spells (octets_of token))
 pub values_at-here : (before : List Value) (tokens : List (List Symbol)) (n place : ℕ)
     → n < length tokens
     → values_at before (drop n tokens) place
-        ≡ after_next before (drop (suc n) tokens) place
-        (next_token (λ token. next_value before (octets_of token)) tokens n)
+    ≡ after_next before (drop (suc n) tokens) place
+    (next_token (λ token. next_value before (octets_of token)) tokens n)
 values_at-here before [] n place left = absurd (omega (arith, left))
 values_at-here before (token ∷ tokens) zero place left = values_at-next before token tokens place
 values_at-here before (token ∷ tokens) (suc n) place left =

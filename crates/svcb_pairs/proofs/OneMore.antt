@@ -21,7 +21,7 @@ pub has_key-held : (values : List Value) (entries : Entries) (key : ℕ) → Hol
     → has_entry entries key ≡ has_key values key
 has_key-held values entries key holds =
     some-pairs_of key entries ∙ ap (λ (pairs : Pairs). is_some (value_at pairs key)) holds.pairs
-        ∙ some-map_of key values
+    ∙ some-map_of key values
 
 and_last : (a b : Bool) → (a && (b && true)) ≡ (b && a)
 and_last true true = refl

@@ -20,7 +20,7 @@ pub one_more : (front text rest : List ℕ)
     → (front ++ 32 ∷ text) ++ rest ≡ front ++ 32 ∷ (text ++ rest)
 one_more front text rest = append_assoc front (32 ∷ text) rest
 
--- a front of the whole text is written, and the rest is not yet
+-- a prefix of the whole text is written, and the rest is not yet
 pub record WritesFront {W : Type 0} (took : W → List ℕ → W → Type 0) (f g : Formatter W)
     (whole rest : List ℕ) : Type 0 where
   pub text : List ℕ

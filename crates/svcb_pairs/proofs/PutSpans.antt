@@ -36,7 +36,7 @@ pair_pushed pairs pairs' len grown limit key value builder absent put counted wi
 module _ (read own own' value : List ℕ) (spans spans' : KeyedSpans) (key start len : ℕ)
     (inside : AreInside (length read) (length read + length own) spans)
     (from : start ≡ length read + length own) (long : len ≡ length value)
-        (more : own' ≡ own ++ value)
+    (more : own' ≡ own ++ value)
     (put : spans' ≡ insert_entry nat_cmp spans key (record { start = start; len = len })) where
   abbrev span : Span
   span = record { start = start; len = len }
@@ -72,7 +72,7 @@ module _ (read own own' value : List ℕ) (spans spans' : KeyedSpans) (key start
       (inside-insert (length read) (length read + length own') spans key span
       (record { within = omega (arith, longer); unbroken = λ before. omega (arith, longer) })
       (inside-more (length read) (length read + length own) (length read + length own') spans
-          (omega (arith, longer)) inside))
+      (omega (arith, longer)) inside))
 
   module _ (wire_len grown limit : ℕ) (are : AreSpans read own spans wire_len limit)
       (absent : value_at pairs key ≡ None) (counted : grown ≡ wire_len + 4 + length value)
@@ -90,6 +90,6 @@ module _ (read own own' value : List ℕ) (spans spans' : KeyedSpans) (key start
         (record { pairs = pairs'; limit = limit }) number value
     value_pushed number is =
         subst (λ n. IsPushed (record { pairs = pairs; limit = limit })
-            (record { pairs = pairs'; limit = limit }) n value) is
+        (record { pairs = pairs'; limit = limit }) n value) is
         (pair_pushed pairs pairs' wire_len grown limit key value are.builder absent spanned_put
-            counted within)
+        counted within)

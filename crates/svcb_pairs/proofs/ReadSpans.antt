@@ -26,7 +26,7 @@ use Rattle.svcb_pairs.proofs.Reading.{octets_are_wire}
 
 limited_pairs-behind : (octets : List ℕ) (spans : KeyedSpans) (key : ℕ) (span : Span)
     → limited_pairs octets (spans ++ (key, span) ∷ [])
-        ≡ limited_pairs octets spans ++ (key, octets_of_span octets span) ∷ []
+    ≡ limited_pairs octets spans ++ (key, octets_of_span octets span) ∷ []
 limited_pairs-behind octets [] key span = refl
 limited_pairs-behind octets (entry ∷ spans) key span =
     ap (λ pairs. (entry.0, octets_of_span octets entry.1) ∷ pairs)
@@ -43,7 +43,7 @@ inside-behind read len (entry ∷ spans) key span is inside =
 module _ (octets rest behind value : List ℕ) (key : ℕ)
     (here : drop (length octets - length rest) octets ≡ rest) (short : length rest ≤ length octets)
     (are : IsParameters rest) (are_behind : IsParameters behind)
-        (first : pairs_in rest ≡ (key, value) ∷ pairs_in behind) where
+    (first : pairs_in rest ≡ (key, value) ∷ pairs_in behind) where
   front : List ℕ
   front = be2 key ++ be2 (length value)
 
@@ -65,15 +65,15 @@ module _ (octets rest behind value : List ℕ) (key : ℕ)
   pub behind_here : drop (length octets - length behind) octets ≡ behind
   behind_here =
       let place : length octets - length rest + 4 + length value ≡ length octets - length behind =
-          omega (arith, first_long) in
+      omega (arith, first_long) in
       subst (λ n. drop n octets ≡ behind) place
-          (drop-behind octets value behind (length octets - length rest + 4) at_value)
+      (drop-behind octets value behind (length octets - length rest + 4) at_value)
 
   module _ (spans spans' : KeyedSpans) (start : ℕ)
       (from : start ≡ length octets - length behind - length value)
       (put : spans'
-          ≡ spans ++ (key, let span : Span = record { start = start; len = length value } in span)
-          ∷ []) where
+      ≡ spans ++ (key, let span : Span = record { start = start; len = length value } in span)
+      ∷ []) where
     abbrev span : Span
     span = record { start = start; len = length value }
 
@@ -81,7 +81,7 @@ module _ (octets rest behind value : List ℕ) (key : ℕ)
     value_here =
         let place : length octets - length rest + 4 ≡ start = omega (arith, first_long) in
         slice_range-front octets value behind start (start + length value) refl
-            (subst (λ n. drop n octets ≡ value ++ behind) place at_value)
+        (subst (λ n. drop n octets ≡ value ++ behind) place at_value)
 
     pub next_spanned : limited_pairs octets spans ++ pairs_in rest ≡ pairs_in octets
         → limited_pairs octets spans' ++ pairs_in behind ≡ pairs_in octets
@@ -99,8 +99,10 @@ module _ (octets rest behind value : List ℕ) (key : ℕ)
     next_inside inside =
         subst (AreInside (length octets) (length octets)) (sym put)
         (inside-behind (length octets) (length octets) spans key span
-            (record { within = omega (arith, first_long);
-            unbroken = λ before. omega (arith, first_long) }) inside)
+        (record {
+          within = omega (arith, first_long);
+          unbroken = λ before. omega (arith, first_long);
+        }) inside)
 
 -- no pairs are left
 pub all_spanned : (octets rest : List ℕ) (spans : KeyedSpans) → pairs_in rest ≡ []
@@ -108,7 +110,7 @@ pub all_spanned : (octets rest : List ℕ) (spans : KeyedSpans) → pairs_in res
     → limited_pairs octets spans ≡ pairs_in octets
 all_spanned octets rest spans none so_far =
     sym (append-nil (limited_pairs octets spans))
-        ∙ ap (λ pairs. limited_pairs octets spans ++ pairs) (sym none) ∙ so_far
+    ∙ ap (λ pairs. limited_pairs octets spans ++ pairs) (sym none) ∙ so_far
 
 -- ---- the map of spans whose keys ascend
 
@@ -116,17 +118,21 @@ above_all : (octets : List ℕ) (key least : ℕ) (spans : KeyedSpans) → key <
     → Ascends least (limited_pairs octets spans)
     → AllByRecursion (λ k. nat_cmp key k ≡ Less) (keys_of spans)
 above_all octets key least [] below up = tt
-above_all octets key least (entry ∷ spans) below up =
-    (sym (nat_cmp_is key entry.0 Less (omega (arith, up.0))), above_all octets key
-        (entry.0 + 1) spans (omega (arith, up.0)) up.3)
+above_all octets key least (entry ∷ spans) below up = (
+  sym (nat_cmp_is key entry.0 Less (omega (arith, up.0))),
+  above_all octets key
+      (entry.0 + 1) spans (omega (arith, up.0)) up.3,
+)
 
 keys_sorted : (octets : List ℕ) (least : ℕ) (spans : KeyedSpans)
     → Ascends least (limited_pairs octets spans) → IsStrictlySortedBy nat_cmp (keys_of spans)
 unfolding IsStrictlySortedBy
 keys_sorted octets least [] up = tt
-keys_sorted octets least (entry ∷ spans) up =
-    (above_all octets entry.0 (entry.0 + 1) spans (omega arith) up.3, keys_sorted octets
-    (entry.0 + 1) spans up.3)
+keys_sorted octets least (entry ∷ spans) up = (
+  above_all octets entry.0 (entry.0 + 1) spans (omega arith) up.3,
+  keys_sorted octets
+      (entry.0 + 1) spans up.3,
+)
 
 -- the tests of std that say the same
 both : (a b : Bool) → T a → T b → T (a && b)
@@ -158,10 +164,10 @@ pub made_of : (octets : List ℕ) (entries : KeyedSpans) (made : BTreeMap ℕ Sp
     → made.entries ≡ entries
 made_of octets entries made is_map from =
     let sorted : IsStrictlySortedBy nat_cmp (keys_of entries) = keys_sorted octets 0 entries is_map
-        in
+    in
     let distinct = IsDistinct-from_sorted nat_cmp (keys_of entries) sorted in
     same_entries nat_cmp nat_cmp_total exact_unsigned made.entries entries
-        (are_sorted made.entries from.1) (are_sorted entries sorted)
+    (are_sorted made.entries from.1) (are_sorted entries sorted)
     (λ key. find-lookup key made.entries ∙ from.0 key
     ∙ update_all_none (eq_by_cmp_equiv nat_cmp_total) (eq_by_cmp nat_cmp)
     (λ _ _. refl) entries key distinct
@@ -173,21 +179,27 @@ made_of octets entries made is_map from =
 inside-buffer : (read len : ℕ) (spans : KeyedSpans) → AreInside read len spans
     → AreInside 0 len spans
 inside-buffer read len [] inside = tt
-inside-buffer read len (entry ∷ spans) inside =
-    (record { within = inside.0.within; unbroken = λ before. omega arith }, inside-buffer read len
-        spans inside.1)
+inside-buffer read len (entry ∷ spans) inside = (
+  record { within = inside.0.within; unbroken = λ before. omega arith },
+  inside-buffer read len
+      spans inside.1,
+)
 
 read_builder : (octets : List ℕ) (pairs : Pairs) (limit : ℕ) → pairs ≡ pairs_in octets
     → IsParameters octets → length octets ≤ limit → limit < 2 ^ 31
     → IsBuilderState pairs (length octets) limit
 read_builder octets pairs limit is are within in_range =
-    rw is (record { is_map = are.is_map; len_is = ap length (sym are.wire); within = within;
-        in_range = in_range })
+    rw is (record {
+      is_map = are.is_map;
+      len_is = ap length (sym are.wire);
+      within = within;
+      in_range = in_range;
+    })
 
 module _ (octets : List ℕ) (spans : KeyedSpans) (limit : ℕ) (are : IsParameters octets)
     (within : length octets ≤ limit) (in_range : limit < 2 ^ 31)
     (pairs : limited_pairs octets spans ≡ pairs_in octets)
-        (inside : AreInside (length octets) (length octets) spans) where
+    (inside : AreInside (length octets) (length octets) spans) where
   -- the values stand in a copy of the octets
   pub copied_spans : (own : List ℕ) → own ≡ octets → AreSpans [] own spans (length octets) limit
   copied_spans own same =

@@ -35,7 +35,7 @@ pub read_pairs-back : (octets : List ℕ) (pairs : Pairs) → octets ≡ pairs_w
 read_pairs-back octets pairs is is_map =
     let up : length octets ≡ 0 + length (pairs_wire pairs) = omega (arith, ap length is) in
     pairs_at-back octets [] pairs (length octets) 0 None (is ∙ sym (append-nil (pairs_wire pairs)))
-        up is_map
+    up is_map
 
 pub pairs_in-back : (octets : List ℕ) (pairs : Pairs) → octets ≡ pairs_wire pairs → IsMap pairs
     → pairs_in octets ≡ pairs

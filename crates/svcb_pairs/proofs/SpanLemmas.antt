@@ -21,8 +21,11 @@ pub limited_pairs-append : (read : ℕ) (octets more : List ℕ) (spans : KeyedS
     → limited_pairs (octets ++ more) spans ≡ limited_pairs octets spans
 limited_pairs-append read octets more [] inside = refl
 limited_pairs-append read octets more (entry ∷ spans) inside =
-    rw (octets_of_span-append octets more entry.1 inside.0.within, limited_pairs-append read octets
-        more spans inside.1) refl
+    rw (
+      octets_of_span-append octets more entry.1 inside.0.within,
+      limited_pairs-append read octets
+          more spans inside.1,
+    ) refl
 
 -- the octets that were appended
 pub octets_of_span-new : (octets value : List ℕ) (span : Span) → span.start ≡ length octets
@@ -32,15 +35,15 @@ octets_of_span-new octets value span from long = grind (arith, common_steps)
 -- a span that is put under a key is its pair put there
 pub limited_pairs-insert : (octets : List ℕ) (spans : KeyedSpans) (key : ℕ) (span : Span)
     → limited_pairs octets (insert_entry nat_cmp spans key span)
-        ≡ insert_entry nat_cmp (limited_pairs octets spans) key (octets_of_span octets span)
+    ≡ insert_entry nat_cmp (limited_pairs octets spans) key (octets_of_span octets span)
 limited_pairs-insert octets [] key span = refl
 limited_pairs-insert octets (entry ∷ spans) key span =
     let pair : Pair = (entry.0, octets_of_span octets entry.1) in
     let value : List ℕ = octets_of_span octets span in
     elim (nat_cmp key entry.0) as
-        (λ order. limited_pairs octets
-        (match_ordering order ((key, span) ∷ entry ∷ spans) ((entry.0, span) ∷ spans)
-        (entry ∷ insert_entry nat_cmp spans key span))
+    (λ order. limited_pairs octets
+    (match_ordering order ((key, span) ∷ entry ∷ spans) ((entry.0, span) ∷ spans)
+    (entry ∷ insert_entry nat_cmp spans key span))
     ≡ match_ordering order ((key, value) ∷ limited_pairs octets (entry ∷ spans))
     ((entry.0, value) ∷ limited_pairs octets spans)
     (pair ∷ insert_entry nat_cmp (limited_pairs octets spans) key value)) [
@@ -56,8 +59,8 @@ pub value_at-limited_pairs : (octets : List ℕ) (spans : KeyedSpans) (key : ℕ
 value_at-limited_pairs octets [] key = refl
 value_at-limited_pairs octets (entry ∷ spans) key =
     elim (is_at (nat_cmp key) entry.0) as
-        (λ found. cond found (Some (octets_of_span octets entry.1))
-        (value_at (limited_pairs octets spans) key)
+    (λ found. cond found (Some (octets_of_span octets entry.1))
+    (value_at (limited_pairs octets spans) key)
     ≡ option_map (octets_of_span octets)
     (cond found (Some entry.1) (lookup (is_at (nat_cmp key)) spans))) [
       | true ↦ refl
@@ -80,9 +83,9 @@ pub inside-insert : (read len : ℕ) (spans : KeyedSpans) (key : ℕ) (span : Sp
 inside-insert read len [] key span is inside = (is, tt)
 inside-insert read len (entry ∷ spans) key span is inside =
     elim (nat_cmp key entry.0) as
-        (λ order. AreInside read len
-        (match_ordering order ((key, span) ∷ entry ∷ spans) ((entry.0, span) ∷ spans)
-        (entry ∷ insert_entry nat_cmp spans key span))) [
+    (λ order. AreInside read len
+    (match_ordering order ((key, span) ∷ entry ∷ spans) ((entry.0, span) ∷ spans)
+    (entry ∷ insert_entry nat_cmp spans key span))) [
       | Less ↦ (is, inside)
       | Equal ↦ (is, inside.1)
       | Greater ↦ (inside.0, inside-insert read len spans key span is inside.1)
@@ -92,13 +95,15 @@ inside-insert read len (entry ∷ spans) key span is inside =
 pub inside-more : (read len len' : ℕ) (spans : KeyedSpans) → len ≤ len' → AreInside read len spans
     → AreInside read len' spans
 inside-more read len len' [] more inside = tt
-inside-more read len len' (entry ∷ spans) more inside =
-    (record { within = omega (arith, inside.0.within); unbroken = inside.0.unbroken }, inside-more
-        read len len' spans more inside.1)
+inside-more read len len' (entry ∷ spans) more inside = (
+  record { within = omega (arith, inside.0.within); unbroken = inside.0.unbroken },
+  inside-more
+      read len len' spans more inside.1,
+)
 
 -- no spans
 pub no_spans : (own : List ℕ) (spans : KeyedSpans) (limit : ℕ) → own ≡ [] → spans ≡ []
     → limit < 2 ^ 31 → AreSpans [] own spans 0 limit
 no_spans own spans limit none_own none in_range =
     rw (none_own, none)
-        (record { builder = no_pairs [] limit refl in_range; inside = tt; fits = omega arith })
+    (record { builder = no_pairs [] limit refl in_range; inside = tt; fits = omega arith })

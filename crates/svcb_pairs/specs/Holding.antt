@@ -45,7 +45,7 @@ abbrev pub next_value : List Value → List ℕ → Result Value ScanError
 next_value before token = spells token >>= new_value before
 
 -- The answer to a value that is read: the map then holds it with those before it, or it is refused
--- by its fault. Only want of memory may stand in place of either.
+-- by its fault. Only a failed allocation may stand in place of either.
 abbrev pub Kept : List Value → Result Value ScanError → Entries → Result (Unit {0}) ScanError
     → Type 0
 Kept before read entries (Ok done) =
@@ -68,8 +68,8 @@ pub record KeepsNext (old new : Scan) (entries entries' : Entries)
     (result : Result (Unit {0}) ScanError) : Type 0 where
   pub kept : (before : List Value) → Holds before entries
       → Kept before
-          (next_token (λ token. next_value before (octets_of token)) old.tokens old.taken) entries'
-          result
+      (next_token (λ token. next_value before (octets_of token)) old.tokens old.taken) entries'
+      result
   pub place : new ≡ record old { taken = if is_ok result then old.taken + 1 else old.taken }
 
 -- ---- all values

@@ -7,8 +7,10 @@ use Rattle.svcb_pairs.specs.declared.limited_pairs.LimitedPairs.{LimitedPairs}
 -- the map and its limit
 abbrev pub builder_state : List ℕ → LimitedPairs → BuilderState
 builder_state read pairs =
-    record { pairs = limited_pairs (read ++ pairs.own.items) pairs.spans.entries;
-    limit = pairs.limit }
+    record {
+      pairs = limited_pairs (read ++ pairs.own.items) pairs.spans.entries;
+      limit = pairs.limit;
+    }
 
 -- the values stand in these octets and the buffer
 abbrev pub IsSpanned : List ℕ → LimitedPairs → Type 0

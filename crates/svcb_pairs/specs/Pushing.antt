@@ -26,7 +26,7 @@ with_value builder value = with_octets builder (key_of value) (encode value)
 abbrev pub len_with : BuilderState → List ℕ → ℕ
 len_with builder octets = length (wire builder.pairs) + 4 + length octets
 
--- the answer is the reply; want of memory may come with any reply
+-- the answer is the reply; a failed allocation may come with any reply
 abbrev pub IsPushAnswer : Result (Unit {0}) PushError → Reply → Type 0
 IsPushAnswer (Ok done) reply = reply ≡ replies.Accepted
 IsPushAnswer (Err DuplicateKey) reply = reply ≡ replies.DuplicateKey

@@ -16,7 +16,7 @@ pub enum PushError {
     /// With the value, the parameters would have more octets in wire form than the limit.
     #[error("short buffer")]
     ShortBuf,
-    /// The memory for the value isn't there.
+    /// Allocation for the value failed.
     #[error("want of memory")]
     NoMemory,
 }

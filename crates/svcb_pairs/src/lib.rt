@@ -4,6 +4,7 @@
 #![tactic(auto)]
 
 mod errors;
+mod limited_pairs;
 mod number_set;
 mod own_texts;
 mod pair_iter;
@@ -12,13 +13,12 @@ mod params_text;
 mod printed_pair;
 mod scan;
 mod span;
-mod limited_pairs;
 mod spans;
 mod values;
 
 pub use errors::PushError;
+pub use limited_pairs::LimitedPairs;
 pub use pairs::check;
 pub use params_text::ParamsText;
 pub use scan::scan_params;
 pub use span::Span;
-pub use limited_pairs::LimitedPairs;

@@ -89,9 +89,9 @@ impl LimitedPairs {
 
     /// Adds a value under its key. Its octets are appended to the buffer.
     ///
-    /// `DuplicateKey`: the key has a value already, which stays. `ShortBuf`: the key is new, and with the value the pairs
-    /// would have more octets in wire form than the limit. `NoMemory`: want of memory, which may come in place of any
-    /// answer. A refused push changes nothing.
+    /// `DuplicateKey`: the key has a value already, which stays. `ShortBuf`: the key is new, and with the value the
+    /// pairs would have more octets in wire form than the limit. `NoMemory`: allocation failed, which may come in place
+    /// of any answer. A refused push changes nothing.
     #[tactic(auto, using(crate::proofs::SpanLemmas::span_rules))]
     pub fn push<V: ComposeSvcParamValue>(&mut self, read: &[u8], value: &V) -> Result<(), PushError>
         requires { IsSpanned read.now self.old }

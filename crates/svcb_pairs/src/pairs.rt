@@ -29,7 +29,7 @@ fn pass_param(parser: &mut Parser<'_>, last: Option<u16>) -> Result<u16, ParseEr
     Ok(key)
 }
 
-/// Tests whether octets are parameters. Refused by the first fault, and never for want of memory.
+/// Tests whether octets are parameters. Refused by the first fault, and never with `NoMemory`.
 pub fn check(octets: &[u8]) -> Result<(), ParseError>
     ensures { MatchResult result
         (λ _. IsParameters octets.now)

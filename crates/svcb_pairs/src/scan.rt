@@ -10,8 +10,7 @@ use crate::values::{compose, has_mandatory, keep};
 use dns_text::Scanner;
 use std::alloc::Global;
 use std::collections::BTreeMap;
-use svcb_text::scan_param;
-use svcb_text::AllValues;
+use svcb_text::{AllValues, scan_param};
 use text_spec::ScanError;
 use wire_base::Octets;
 
@@ -21,7 +20,7 @@ use wire_base::Octets;
 /// A token's own fault, as `scan_param` gives it, or else `DuplicateKey`, where a token before it has its key: the
 /// first such token refuses, and the scanner stands before it. `MandatoryMissing`: no token has a fault, one of them is
 /// a `mandatory` list, and it names a key that no token has (RFC 9460, section 8); the scanner stands at the entry's
-/// end. The octets of a `key0` are no such list. `NoMemory`: want of memory; the scanner stays.
+/// end. The octets of a `key0` are no such list. `NoMemory`: allocation failed; the scanner stays.
 pub fn scan_params<S: Scanner>(alloc: Global, scanner: &mut S) -> Result<Octets, ScanError>
     ensures params { Scans pairs_in params (S.scan scanner.old) (S.scan scanner.new) result }
     ensures are { IfOk result IsParameters }

@@ -16,7 +16,8 @@ use svcb_text::{AllValues, AllValuesRef};
 use text_spec::ScanError;
 use wire_base::{NoMemory, Octets};
 
-/// Keeps a value under its key. Refused as `DuplicateKey` where the key has one already, else for want of memory alone.
+/// Keeps a value under its key. Refused as `DuplicateKey` where the key has one already, else when allocation fails
+/// alone.
 pub(crate) fn keep(values: &mut BTreeMap<u16, AllValues>, value: AllValues) -> Result<(), ScanError>
     ensures { KeepsValue (value_of value) values.old.entries values.new.entries result }
 {
@@ -59,7 +60,7 @@ fn has_listed(values: &BTreeMap<u16, AllValues>, value: &AllValues) -> bool
     true
 }
 
-/// The octets of the values in wire form, by ascending keys. Refused for want of memory alone.
+/// The octets of the values in wire form, by ascending keys. Fails only with `NoMemory`.
 pub(crate) fn compose(alloc: Global, values: &BTreeMap<u16, AllValues>) -> Result<Octets, NoMemory>
     ensures { IfOk result (λ octets. octets ≡ pairs_wire (pairs_of values.now.entries)) }
 {
@@ -71,7 +72,7 @@ pub(crate) fn compose(alloc: Global, values: &BTreeMap<u16, AllValues>) -> Resul
 }
 
 /// Appends a key, the length of a value, and the value, which composes itself: `svcb_value::parameter` writes values
-/// whose octets are at hand. Refused for want of memory alone.
+/// whose octets are at hand. Fails only with `NoMemory`.
 fn compose_with_key(key: u16, value: &AllValues, target: &mut Vec<u8>) -> Result<(), NoMemory>
     ensures { IfOk result (λ _. target.new.items
         ≡ target.old.items ++ pair_wire key (Some (encode (value_of value.now)))) }

@@ -15,20 +15,20 @@ abbrev after_token : List Value → List (List Symbol) → ℕ → Result Value 
 after_token before tokens place (Err fault) = refused fault place
 after_token before tokens place (Ok value) =
     cond (has_key before (key_of value)) (refused DuplicateKey place)
-        (values_at (before ++ value ∷ []) tokens (place + 1))
+    (values_at (before ++ value ∷ []) tokens (place + 1))
 
 values_anywhere : (before : List Value) (tokens : List (List Symbol)) (place place' : ℕ)
     → (values_at before tokens place).outcome ≡ (values_at before tokens place').outcome
 values_anywhere before [] place place' = refl
 values_anywhere before (token ∷ tokens) place place' =
     elim (spells (octets_of token)) as
-        (λ spelled. (after_token before tokens place spelled).outcome
-        ≡ (after_token before tokens place' spelled).outcome) [
+    (λ spelled. (after_token before tokens place spelled).outcome
+    ≡ (after_token before tokens place' spelled).outcome) [
       | Err fault ↦ refl
       | Ok value ↦
           elim (has_key before (key_of value)) as
-              (λ old. (cond old (refused DuplicateKey place)
-              (values_at (before ++ value ∷ []) tokens (place + 1))).outcome
+          (λ old. (cond old (refused DuplicateKey place)
+          (values_at (before ++ value ∷ []) tokens (place + 1))).outcome
           ≡ (cond old (refused DuplicateKey place')
           (values_at (before ++ value ∷ []) tokens (place' + 1))).outcome) [
             | true ↦ refl
@@ -42,11 +42,11 @@ made_of values end =
 
 made_anywhere : (read : Result (List Value) ScanError) (end end' : ℕ)
     → (scan_then (record { outcome = read; place = end }) made_of).outcome
-        ≡ (scan_then (record { outcome = read; place = end' }) made_of).outcome
+    ≡ (scan_then (record { outcome = read; place = end' }) made_of).outcome
 made_anywhere (Err fault) end end' = refl
 made_anywhere (Ok values) end end' =
     elim (are_mandatory_there values) as
-        (λ there. (cond there (done (map_of values) end) (refused MandatoryMissing end)).outcome
+    (λ there. (cond there (done (map_of values) end) (refused MandatoryMissing end)).outcome
     ≡ (cond there (done (map_of values) end') (refused MandatoryMissing end')).outcome)
     [ true ↦ refl | false ↦ refl ]
 
@@ -67,11 +67,11 @@ scanned_in_any_order before after result scanned tokens pairs place end spelled 
     let left = drop before.taken before.tokens in
     let first : params_of tokens 0 ≡ done pairs (params_of tokens 0).place =
     ap (λ (outcome : Result Pairs ScanError). let there : Scanned Pairs = record
-        { outcome = outcome; place = (params_of tokens 0).place } in there)
+    { outcome = outcome; place = (params_of tokens 0).place } in there)
     (params_anywhere tokens 0 place ∙ ap (λ (scanned : Scanned Pairs). scanned.outcome) spelled) in
     let there : params_of left 0 ≡ done pairs (params_of tokens 0).place =
-        (any_order [] tokens left pairs (params_of tokens 0).place same first).1 in
+    (any_order [] tokens left pairs (params_of tokens 0).place same first).1 in
     let is : (params before.tokens before.taken).outcome ≡ Ok pairs =
-        params_anywhere left before.taken 0
-        ∙ ap (λ (scanned : Scanned Pairs). scanned.outcome) there in
+    params_anywhere left before.taken 0
+    ∙ ap (λ (scanned : Scanned Pairs). scanned.outcome) there in
     subst (λ outcome. Answers (λ pairs. pairs) result outcome) is scanned.answer

@@ -37,15 +37,15 @@ module _ (all built built' : List (List ℕ)) (i : ℕ) (protocol : List ℕ) (h
   pub next_taken : built ≡ take i all → built' ≡ take (i + 1) all
   next_taken so_far =
       grown ∙ ap (λ b. b ++ protocol ∷ []) so_far ∙ ap (λ p. take i all ++ p ∷ []) item
-          ∙ rw add-one (sym (take-suc all i protocol here))
+      ∙ rw add-one (sym (take-suc all i protocol here))
 
   pub next_fault : IsProtocolLength (length protocol)
       → length (protocols_wire built) + 1 + length protocol ≤ 65535
       → alpn_fault_behind (length (protocols_wire built)) (drop i all)
-          ≡ alpn_fault_behind (length (protocols_wire built')) (drop (i + 1) all)
+      ≡ alpn_fault_behind (length (protocols_wire built')) (drop (i + 1) all)
   next_fault is fits =
       let len = length (protocols_wire built) in
       let longer : length (protocols_wire built') ≡ len + 1 + length protocol =
-          ap (λ b. length (protocols_wire b)) grown ∙ added_len built protocol in
+      ap (λ b. length (protocols_wire b)) grown ∙ added_len built protocol in
       ap (alpn_fault_behind len) first ∙ fault_passed len protocol (drop (i + 1) all) is fits
-          ∙ ap (λ n. alpn_fault_behind n (drop (i + 1) all)) (sym longer)
+      ∙ ap (λ n. alpn_fault_behind n (drop (i + 1) all)) (sym longer)

@@ -19,7 +19,7 @@ pub pushed_is_read : (builder : BuilderState) (value : Value) → IsValue value
     → typed_at (key_of value) (with_value builder value).pairs ≡ Some value
 pushed_is_read builder value is own =
     ap (typed_value (key_of value)) (value_at-put builder.pairs (key_of value) (encode value))
-        ∙ ap result_ok (values_read_back value is own)
+    ∙ ap result_ok (values_read_back value is own)
 
 -- a value goes on to the items that follow
 with_item-append : {Seen : Type 0} (read : Result Seen Fault)
@@ -36,4 +36,4 @@ read_through [] back value is own read =
     ap (λ read. with_item read (all_items back)) (values_read_back value is own)
 read_through (pair ∷ front) back value is own read =
     with_item-append (whole_value pair.1 (take_value pair.0 pair.1)) _ _ _ read.0
-        (read_through front back value is own read.1)
+    (read_through front back value is own read.1)

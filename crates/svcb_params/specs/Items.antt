@@ -22,7 +22,7 @@ abbrev pub items : {Seen : Type 0} → (ℕ → Bool) → (ℕ → List ℕ → 
 items takes reads [] = []
 items takes reads (pair ∷ pairs) =
     if takes pair.0
-        then with_item (whole_value pair.1 (reads pair.0 pair.1)) (items takes reads pairs)
+    then with_item (whole_value pair.1 (reads pair.0 pair.1)) (items takes reads pairs)
     else items takes reads pairs
 
 -- the items of the type of all values, which takes each key

@@ -7,9 +7,9 @@ use Rattle.text_spec.specs.Scanning.{Scan, Answers, done}
 use Rattle.svcb_spec.specs.ParamTexts.{params_of}
 
 -- Where the tokens left are, in another order, tokens that spell a map, the answer is that map.
--- Only want of memory may stand in its place.
+-- Only a failed allocation may stand in its place.
 abbrev pub AnswersInAnyOrder : Scan → Result Pairs ScanError → Type 0
 AnswersInAnyOrder before result = (tokens : List (List Symbol)) (pairs : Pairs) (place end : ℕ)
     → params_of tokens place ≡ done pairs end
-        → IsPermutation tokens (drop before.taken before.tokens)
-        → Answers (λ params. params) result (Ok pairs)
+    → IsPermutation tokens (drop before.taken before.tokens)
+    → Answers (λ params. params) result (Ok pairs)

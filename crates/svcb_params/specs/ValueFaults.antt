@@ -37,7 +37,7 @@ alpn_fault_behind len (protocol ∷ protocols) =
 abbrev pub alpn_fault : List (List ℕ) → Option ValueFault
 alpn_fault = alpn_fault_behind 0
 
--- the answer is the fault, or else the reply; want of memory may come where there is no fault
+-- the answer is the fault, or else the reply; a failed allocation may come where there is no fault
 abbrev pub IsPushValueAnswer : Result (Unit {0}) PushValueError → Option ValueFault → Reply → Type 0
 IsPushValueAnswer (Ok done) fault reply = (fault ≡ None) × (reply ≡ replies.Accepted)
 IsPushValueAnswer (Err value_errors.DuplicateKey) fault reply =
@@ -48,7 +48,7 @@ IsPushValueAnswer (Err value_errors.LongSvcParam) fault reply = fault ≡ Some L
 IsPushValueAnswer (Err value_errors.EmptyValue) fault reply = fault ≡ Some NoItems
 IsPushValueAnswer (Err value_errors.NoMemory) fault reply = fault ≡ None
 
--- the same for protocols; want of memory may come before a fault
+-- the same for protocols; a failed allocation may come before a fault
 abbrev pub IsPushAlpnAnswer : Result (Unit {0}) PushAlpnError → Option ValueFault → Reply → Type 0
 IsPushAlpnAnswer (Ok done) fault reply = (fault ≡ None) × (reply ≡ replies.Accepted)
 IsPushAlpnAnswer (Err alpn_errors.DuplicateKey) fault reply =
@@ -59,7 +59,7 @@ IsPushAlpnAnswer (Err alpn_errors.LongSvcParam) fault reply = fault ≡ Some Lon
 IsPushAlpnAnswer (Err alpn_errors.InvalidProtocol) fault reply = fault ≡ Some InvalidName
 IsPushAlpnAnswer (Err alpn_errors.NoMemory) fault reply = Unit {0}
 
--- the value of protocols is made exactly where they have no fault, want of memory excepted
+-- the value of protocols is made exactly where they have no fault, a failed allocation excepted
 abbrev pub IsAlpnBuilt : {X : Type 0} → Result X BuildAlpnError → Option ValueFault → Type 0
 IsAlpnBuilt (Ok value) fault = fault ≡ None
 IsAlpnBuilt (Err build_errors.InvalidProtocol) fault = fault ≡ Some InvalidName

@@ -14,7 +14,7 @@ use crate::params_ref::SvcParamsRef;
 use registry::ComposeSvcParamValue;
 use std::alloc::Global;
 use std::marker::Model;
-use svcb_pairs::{PushError, LimitedPairs};
+use svcb_pairs::{LimitedPairs, PushError};
 use wire_base::{NoMemory, Octets};
 
 /// Parameters by their keys, within a limit on their octets in wire form. Contracts see the map, as the list of its
@@ -113,8 +113,8 @@ impl SvcParamsBuilder {
     /// Adds a value under its key.
     ///
     /// `DuplicateKey`: the key has a value already, which stays. `ShortBuf`: the key is new, and with the value the
-    /// parameters would have more octets in wire form than the limit. `NoMemory`: want of memory, which may come in place
-    /// of any answer. A refused push changes nothing.
+    /// parameters would have more octets in wire form than the limit. `NoMemory`: allocation failed, which may come in
+    /// place of any answer. A refused push changes nothing.
     ///
     /// Views are values too. So octets at hand are pushed without an allocation of one's own as
     /// `builder.push(&UnknownSvcParamRef::new(key, octets)?)?`, where the key may also have a type.

@@ -18,7 +18,7 @@ pub enum BufError {
     /// The parameters have more octets in wire form than the limit.
     #[error("short buffer")]
     ShortBuf,
-    /// The memory for the copy isn't there.
+    /// Allocation for the copy failed.
     #[error("want of memory")]
     NoMemory,
 }
@@ -38,7 +38,7 @@ pub enum PushValueError {
     /// The value has no items, and its type wants at least one.
     #[error("empty SVCB value")]
     EmptyValue,
-    /// The memory for the value isn't there.
+    /// Allocation for the value failed.
     #[error("want of memory")]
     NoMemory,
 }
@@ -58,7 +58,7 @@ pub enum PushAlpnError {
     /// The name of a protocol has no octets or more than 255.
     #[error("invalid ALPN protocol")]
     InvalidProtocol,
-    /// The memory for the value isn't there.
+    /// Allocation for the value failed.
     #[error("want of memory")]
     NoMemory,
 }

@@ -14,7 +14,7 @@ use crate::params_ref::SvcParamsRef;
 use registry::ComposeSvcParamValue;
 use std::alloc::Global;
 use std::marker::Model;
-use svcb_pairs::{PushError, LimitedPairs};
+use svcb_pairs::{LimitedPairs, PushError};
 use wire_base::NoMemory;
 
 /// Parameters that were read, with values added, within a limit on the octets of all in wire form. The values that were
@@ -87,8 +87,8 @@ impl<'a> SvcParamsOverlay<'a> {
     /// Adds a value under its key.
     ///
     /// `DuplicateKey`: the key has a value already, read or added, which stays. `ShortBuf`: the key is new, and with
-    /// the value the parameters would have more octets in wire form than the limit. `NoMemory`: want of memory, which
-    /// may come in place of any answer. A refused push changes nothing.
+    /// the value the parameters would have more octets in wire form than the limit. `NoMemory`: allocation failed,
+    /// which may come in place of any answer. A refused push changes nothing.
     ///
     /// Views are values too. So octets at hand are pushed without an allocation of one's own as
     /// `overlay.push(&UnknownSvcParamRef::new(key, octets)?)?`, where the key may also have a type.

@@ -5,8 +5,8 @@ ghost use Rattle.wire_base.specs.declared.errors.ParseError.TheVariants as error
 
 use wire_base::{ParseError, ShortInput};
 
-/// Octets are no service parameters, by the fault that it holds. It never holds want of memory where a call of this crate
-/// answers it.
+/// Octets are no service parameters, by the fault that it holds. It never holds a failed allocation where a call of this
+/// crate answers it.
 #[derive(Clone, Copy, Debug, PartialEq, Eq)]
 pub struct SvcParamsError(pub ParseError);
 

@@ -8,8 +8,8 @@ ghost use Rattle.svcb_params.specs.Scanned.{AnswersInAnyOrder};
 
 use crate::params::SvcParams;
 use dns_text::Scanner;
-use svcb_pairs::scan_params;
 use std::alloc::Global;
+use svcb_pairs::scan_params;
 use text_spec::ScanError;
 
 impl SvcParams {
@@ -19,7 +19,7 @@ impl SvcParams {
     /// A token's own fault, as `scan_param` gives it, or else `DuplicateKey`, where a token before it has its key: the
     /// first such token refuses, and the scanner stands before it. `MandatoryMissing`: no token has a fault, one of
     /// them is a `mandatory` list, and it names a key that no token has (RFC 9460, section 8); the scanner stands at
-    /// the entry's end. The octets of a `key0` are no such list. `NoMemory`: want of memory; the scanner stays.
+    /// the entry's end. The octets of a `key0` are no such list. `NoMemory`: allocation failed; the scanner stays.
     pub fn scan<S: Scanner>(alloc: Global, scanner: &mut S) -> Result<SvcParams, ScanError>
         ensures params { Scans (λ params. params) params
             (S.scan scanner.old) (S.scan scanner.new) result }

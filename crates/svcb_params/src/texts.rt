@@ -9,8 +9,8 @@ ghost use Rattle.svcb_params.specs.ParamsView.{seen_params};
 use crate::params::SvcParams;
 use crate::params_ref::SvcParamsRef;
 use dns_text::{Formatter, ZonefileFmt};
-use svcb_pairs::ParamsText;
 use std::fmt;
+use svcb_pairs::ParamsText;
 use wire_base::NoMemory;
 
 impl<'a> SvcParamsRef<'a> {

@@ -16,7 +16,7 @@ use svcb_pairs::PushError;
 use svcb_value::{DohPath, Ech, NoDefaultAlpn, Ohttp, Port};
 use wire_base::{Ipv4Addr, Ipv6Addr, Octets};
 
-/// The value of protocols in order. Refused by the first fault, else for want of memory alone.
+/// The value of protocols in order. Refused by the first fault, else only when allocation fails.
 fn alpn_of(alloc: Global, protocols: &[Octets]) -> Result<Alpn, BuildAlpnError>
     ensures value { IfOk result (λ value. value ≡ values.Alpn protocols.now) }
     ensures answer { IsAlpnBuilt result (alpn_fault protocols.now) }
@@ -131,7 +131,7 @@ impl SvcParamsBuilder {
 
     /// Adds `alpn` (RFC 9460, section 7.1), whose value is empty where there are no protocols.
     ///
-    /// The first fault of the protocols in their order refuses them; want of memory may come before it.
+    /// The first fault of the protocols in their order refuses them; a failed allocation may come before it.
     /// `InvalidProtocol`: a name has no octets or more than 255. `LongSvcParam`: with this protocol and its octet of
     /// length the value would have more than 65,535 octets. Else refused as [`push`](Self::push) is. The builder then
     /// stays.

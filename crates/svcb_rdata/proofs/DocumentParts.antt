@@ -18,7 +18,7 @@ module _ (found : Record) (old begun numbered noted named behind : Sheet) where
       → labels ≡ found.labels → begun ≡ laid_out old (BlockBegin ∷ [])
       → numbered ≡ laid_out begun (Token (decimal number) ∷ [])
       → noted ≡ laid_out numbered (Comment (codes "priority") ∷ [])
-          → named ≡ laid_out noted (Token (printed_name_with_dot labels) ∷ [])
+      → named ≡ laid_out noted (Token (printed_name_with_dot labels) ∷ [])
       → behind ≡ laid_out named (Comment (codes "target") ∷ [])
       → behind ≡ laid_out old (parts found)
   parts_laid_out number labels is are one two three four five =

@@ -25,8 +25,8 @@ module _ {X : Type 0} (value_of : X → Value) (pushes : List X) (i : ℕ) where
       → left_from value_of i pushes ≡ value_of push ∷ left_from value_of (i + 1) pushes
   left_next push here item =
       let next : drop i pushes ≡ push ∷ drop (i + 1) pushes =
-          rw add-one (drop-cons pushes i push here
-          ∙ ap (λ first. first ∷ drop (suc i) pushes) (sym item)) in
+      rw add-one (drop-cons pushes i push here
+      ∙ ap (λ first. first ∷ drop (suc i) pushes) (sym item)) in
       ap (map value_of) next
 
   -- no value is left
@@ -62,9 +62,9 @@ module _ {X : Type 0} (value_of : X → Value) (pushes : List X) (i : ℕ) where
     accept_next push builder' reply front' here item is moved more =
         let first = reply_of_value builder (value_of push) in
         let rest = accept (behind_value builder (value_of push) first).pairs builder.limit
-            (left_from value_of (i + 1) pushes) in
+        (left_from value_of (i + 1) pushes) in
         ap (λ left. with_replies front (accept builder.pairs builder.limit left))
-            (left_next push here item)
+        (left_next push here item)
         ∙ rw (more, moved, is)
         (ap (λ replies. let pushed : Pushed = record { pairs = rest.pairs; replies = replies }
-            in pushed) (sym (append_assoc front (first ∷ []) rest.replies)))
+        in pushed) (sym (append_assoc front (first ∷ []) rest.replies)))

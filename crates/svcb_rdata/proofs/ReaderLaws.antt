@@ -18,10 +18,12 @@ held_are_read : (pairs : Pairs) (values : List Value) (replies : List Reply) →
     → AreHeld pairs values replies → AreRead pairs values replies
 held_are_read pairs [] replies are held = tt
 held_are_read pairs (value ∷ values) [] are held = tt
-held_are_read pairs (value ∷ values) (reply ∷ replies) are held =
-    (λ is own. ap (typed_value (key_of value)) (held.0 is)
-        ∙ ap result_ok (values_read_back value are.0 own), held_are_read pairs values replies are.1
-        held.1)
+held_are_read pairs (value ∷ values) (reply ∷ replies) are held = (
+  λ is own. ap (typed_value (key_of value)) (held.0 is)
+      ∙ ap result_ok (values_read_back value are.0 own),
+  held_are_read pairs values replies are.1
+      held.1,
+)
 
 -- typed values that are accepted are read
 pub accepted_are_read : (pairs : Pairs) (limit : ℕ) (values : List Value) → AreValues values
@@ -36,7 +38,7 @@ module _ (octets : List ℕ) (pairs : Pairs) (are : AreRebuilt octets pairs) whe
   read_back : read octets 0 (length octets) ≡ Ok final
   read_back =
       rebuilt_read_back are.message are.start are.len are.values are.limit are.found
-          (record { octets = octets; replies = are.replies }) are.rebuilding
+      (record { octets = octets; replies = are.replies }) are.rebuilding
 
   -- the pairs that are read are the final ones
   pub pairs_read : (found : Record) → read octets 0 (length octets) ≡ Ok found → found.pairs ≡ pairs

@@ -9,7 +9,7 @@ use Rattle.svcb_spec.specs.Records.{rdata, IsRecord, read}
 pub is_record : (priority : ℕ) (labels : List (List ℕ)) (pairs : Pairs) → priority < 65536
     → AreLabels 0 labels → IsMap pairs
     → 2 + length (name_wire labels) + length (wire pairs) < 65536
-        → IsRecord (record { priority = priority; labels = labels; pairs = pairs })
+    → IsRecord (record { priority = priority; labels = labels; pairs = pairs })
 is_record priority labels pairs small are is_map few = record {
   priority = small;
   labels = are;

@@ -20,21 +20,21 @@ use Rattle.svcb_rdata.specs.Texts.{ReadsBack}
 scanned_again : (tokens : List (List Symbol)) (place : ℕ) → place ≤ length tokens
     → (found : Record) → IsRecordOfOctets found
     → HasTokens (svcb_printed found) (drop place tokens)
-        → (svcb_data tokens place).outcome ≡ Ok found
+    → (svcb_data tokens place).outcome ≡ Ok found
 scanned_again tokens place within found is has =
     let front = take place tokens in
     let count : length front ≡ place = length-take-le place tokens within in
     sym (ap (λ (ts : List (List Symbol)). (svcb_data ts place).outcome)
-        (take-append-drop place tokens))
+    (take-append-drop place tokens))
     ∙ sym (ap (λ n. (svcb_data (front ++ drop place tokens) n).outcome) count)
     ∙ ap (λ scanned. scanned.outcome) ((text_again found is).scanned (drop place tokens) has front)
 
 pub reads_back : (old : Scan) (result : Result Record ScanError) → old.taken ≤ length old.tokens
     → Answers (λ found. found) result (svcb_data old.tokens old.taken).outcome
-        → ReadsBack old result
+    → ReadsBack old result
 reads_back old result within answer found is has =
     subst (Answers (λ seen. seen) result) (scanned_again old.tokens old.taken within found is has)
-        answer
+    answer
 
 -- data is made of octets, where those of its target and its parameters are
 pub data_of_octets : (found : Record) (target parameters : List ℕ) → IsRecord found

@@ -43,8 +43,14 @@ same_svcb_ties x y =
     let p = nat_cmp x.priority y.priority in
     let t = name_cmp x.labels y.labels in
     let o = slice_cmp nat_cmp (wire x.pairs) (wire y.pairs) in
-    cc (unsigned_tied x.priority y.priority, same_name_ties x.labels y.labels, texts_ties
-        (wire x.pairs) (wire y.pairs), tied_then t o, tied_then p (ordering_then t o))
+    cc (
+      unsigned_tied x.priority y.priority,
+      same_name_ties x.labels y.labels,
+      texts_ties
+          (wire x.pairs) (wire y.pairs),
+      tied_then t o,
+      tied_then p (ordering_then t o),
+    )
 
 -- the same data feeds the same
 pub same_svcb_hash_input : (x y : Record) → is_same_svcb x y ≡ true
@@ -52,6 +58,10 @@ pub same_svcb_hash_input : (x y : Record) → is_same_svcb x y ≡ true
 same_svcb_hash_input x y is =
     let first = and_parts (x.priority == y.priority) _ is in
     let second = and_parts (is_same_name x.labels y.labels)
-        (pointwise ◌==◌ (wire x.pairs) (wire y.pairs)) first.1 in
-    cc (same_number x.priority y.priority first.0, fed-same (flat_map fed.u8) x.labels y.labels
-        second.0, (bytes_decides (wire x.pairs) (wire y.pairs)).0 second.1)
+    (pointwise ◌==◌ (wire x.pairs) (wire y.pairs)) first.1 in
+    cc (
+      same_number x.priority y.priority first.0,
+      fed-same (flat_map fed.u8) x.labels y.labels
+          second.0,
+      (bytes_decides (wire x.pairs) (wire y.pairs)).0 second.1,
+    )

@@ -14,7 +14,7 @@ AreRead pairs [] replies = Unit {0}
 AreRead pairs (value ∷ values) [] = Unit {0}
 AreRead pairs (value ∷ values) (reply ∷ replies) =
     (reply ≡ Accepted → is_own_type value ≡ true → typed_at (key_of value) pairs ≡ Some value)
-        × AreRead pairs values replies
+    × AreRead pairs values replies
 
 -- typed values that are accepted are read, whatever octets the parameters held before
 abbrev pub AcceptedRead : Type 0

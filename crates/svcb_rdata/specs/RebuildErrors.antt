@@ -6,7 +6,7 @@ use Rattle.svcb_params.specs.declared.errors.BufError.TheVariants as buf
 use Rattle.svcb_rdata.specs.declared.errors.RebuildError.{RebuildError}
 use Rattle.svcb_rdata.specs.declared.errors.RebuildError.TheVariants as rebuild
 
--- want of memory is none of the faults of the data
+-- a failed allocation is none of the faults of the data
 abbrev pub error_of_parse : ParseError → RebuildError
 error_of_parse parse.ShortInput = rebuild.Parse parse.ShortInput
 error_of_parse parse.Form = rebuild.Parse parse.Form

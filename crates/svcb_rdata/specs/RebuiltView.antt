@@ -18,7 +18,7 @@ MayWantMemory (Err (spec.Unread fault)) = ⊥
 MayWantMemory (Err spec.OverLimit) = ⊥
 MayWantMemory (Err spec.TooLong) = Unit {0}
 
--- the error of reading is the fault of the data, and never want of memory
+-- the error of reading is the fault of the data, and never a failed allocation
 abbrev pub IsUnread : ParseError → Result spec.Rebuilt spec.Refusal → Type 0
 IsUnread parse.ShortInput answer = answer ≡ Err (spec.Unread Short)
 IsUnread parse.Form answer = answer ≡ Err (spec.Unread Form)
@@ -49,4 +49,4 @@ rebuilt_len found values limit =
 abbrev pub IsRebuiltFrom : List ℕ → ℕ → ℕ → List Value → ℕ → Rebuilt → Type 0
 IsRebuiltFrom message start len values limit done =
     (found : Record) → read message start len ≡ Ok found
-        → IsRebuilding message start len values limit found (rebuilt_view done)
+    → IsRebuilding message start len values limit found (rebuilt_view done)

@@ -8,8 +8,8 @@ use Rattle.svcb_spec.specs.DataTexts.{svcb_printed}
 use Rattle.svcb_laws.specs.DataTextLaws.{IsRecordOfOctets}
 
 -- Where the tokens left are those of the printed text of some data, the answer is that data. Only
--- want of memory may stand in its place.
+-- failed allocation may stand in its place.
 abbrev pub ReadsBack : Scan → Result Record ScanError → Type 0
 ReadsBack old result = (found : Record) → IsRecordOfOctets found
     → HasTokens (svcb_printed found) (drop old.taken old.tokens)
-        → Answers (λ seen. seen) result (Ok found)
+    → Answers (λ seen. seen) result (Ok found)

@@ -24,7 +24,7 @@ pub enum RebuildError {
     NoMemory,
 }
 
-/// A fault of the data stays one; want of memory is `NoMemory`.
+/// A fault of the data stays one; failed allocation is `NoMemory`.
 impl From<ParseError> for RebuildError {
     ghost use Rattle.std.specs.Prelude.{◌≡◌};
     ghost use Rattle.svcb_rdata.specs.RebuildErrors.{error_of_parse};

@@ -21,10 +21,10 @@ impl<V> SvcbRdata<V> {
     /// first token is no number text of at most 65,535; before it. `BadName`: the second is no name text, as
     /// [`Scanner::scan_name`] reads it; before it. `EndOfEntry`: one of these two is missing; at the entry's end. A
     /// fault of the parameters: as [`SvcParams::scan`] has it. `LongRecord`: the data would have more than 65,535
-    /// octets; at the entry's end. `NoMemory`: want of memory; where the scan began.
+    /// octets; at the entry's end. `NoMemory`: allocation failed; where the scan began.
     ///
-    /// Whatever the data, the tokens of its printed text are scanned as that data, or memory is wanting: no data is left
-    /// out.
+    /// Whatever the data, the tokens of its printed text are scanned as that data, or memory is wanting: no data is
+    /// left out.
     #[tactic(auto, using(crate::proofs::TextLemmas::reads_back))]
     pub fn scan<S: Scanner>(alloc: Global, scanner: &mut S) -> Result<SvcbRdata<V>, ScanError>
         ensures scans { Scans (λ found. found) svcb_data
@@ -37,7 +37,7 @@ impl<V> SvcbRdata<V> {
     }
 }
 
-/// The same, where for want of memory tokens may be taken.
+/// The same, when allocation fails tokens may be taken.
 fn scan_parts<V, S: Scanner>(alloc: Global, scanner: &mut S) -> Result<SvcbRdata<V>, ScanError>
     ensures { ScansPart (λ found. found) svcb_data
         (S.scan scanner.old) (S.scan scanner.new) result }

@@ -20,8 +20,11 @@ use Rattle.svcb_spec.specs.DataDocuments.{svcb_document}
 
 -- priority 1, the root, protocol h2 and port 53
 abbrev root_record : Record
-root_record = record { priority = 1; labels = [];
-    pairs = (1, 2 ∷ codes "h2") ∷ (3, 0 ∷ 53 ∷ []) ∷ [] }
+root_record = record {
+  priority = 1;
+  labels = [];
+  pairs = (1, 2 ∷ codes "h2") ∷ (3, 0 ∷ 53 ∷ []) ∷ [];
+}
 
 -- priority 16, foo.example.org, and the protocols `f\oo,bar` and `h2`
 abbrev escaped_record : Record
@@ -56,14 +59,14 @@ data_in text = svcb_data (tokens_in text) 0
 -- the length of a record, by its pairs in order: to ask for all keys would take long here
 fits : (found : Record) (end : ℕ) → IsMap found.pairs
     → nat_lt 65535
-        (length (be2 found.priority ++ name_wire found.labels ++ pairs_wire found.pairs)) ≡ false
+    (length (be2 found.priority ++ name_wire found.labels ++ pairs_wire found.pairs)) ≡ false
     → within_record_limit found end ≡ done found end
 fits found end is_map short =
     ap (λ octets. cond
-        (nat_lt 65535 (length (be2 found.priority ++ name_wire found.labels ++ octets)))
-        (refused LongRecord end) (done found end))
+    (nat_lt 65535 (length (be2 found.priority ++ name_wire found.labels ++ octets)))
+    (refused LongRecord end) (done found end))
     (wire-pairs found.pairs is_map)
-        ∙ ap (λ long. cond long (refused LongRecord end) (done found end)) short
+    ∙ ap (λ long. cond long (refused LongRecord end) (done found end)) short
 
 root_read : data_in (codes "1 . port=53 alpn=h2") ≡ within_record_limit root_record 4
 unfolding lexemes_at step protocols_within
@@ -117,6 +120,6 @@ by_tabs = refl
 
 in_lines : laid_out_text Multiline (svcb_document root_record)
     ≡ codes "( 1 ; priority" ++ 10 ∷ 9 ∷ codes ". ; target"
-        ++ 10 ∷ 9 ∷ codes "( alpn=h2 port=53 ) )"
+    ++ 10 ∷ 9 ∷ codes "( alpn=h2 port=53 ) )"
 unfolding digits printed_as
 in_lines = refl

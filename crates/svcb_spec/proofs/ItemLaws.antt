@@ -56,9 +56,11 @@ pub whole_parts : (len n : ℕ) → 0 < len → 0 < n → n % len ≡ 0 → (len
 whole_parts len n some full whole =
     ⊎_elim
     (λ (less : n < len). absurd (let same : n % len ≡ n = mod-eq_of_lt less in omega arith))
-    (λ (more : len ≤ n).
-        (more, (let back : len + (n - len) ≡ n = omega arith
-        in sym (add-mod_left len (n - len)) ∙ ap (λ k. k % len) back ∙ whole)))
+    (λ (more : len ≤ n). (
+      more,
+      (let back : len + (n - len) ≡ n = omega arith
+          in sym (add-mod_left len (n - len)) ∙ ap (λ k. k % len) back ∙ whole),
+    ))
     (cases_lt n len)
 
 concat-parts_behind : (len skip : ℕ) (octets : List ℕ) → 0 < len
@@ -69,8 +71,8 @@ concat-parts_behind zero zero (octet ∷ octets) some = absurd (omega arith)
 concat-parts_behind (suc len) zero (octet ∷ octets) some =
     let one : suc len - 1 ≡ len = omega arith in
     ap (λ rest. take (suc len) (octet ∷ octets) ++ rest)
-        (ap (λ n. concat (parts_behind (suc len) n octets)) one
-        ∙ concat-parts_behind (suc len) len octets some)
+    (ap (λ n. concat (parts_behind (suc len) n octets)) one
+    ∙ concat-parts_behind (suc len) len octets some)
     ∙ take-append-drop (suc len) (octet ∷ octets)
 concat-parts_behind len (suc skip) (octet ∷ octets) some = concat-parts_behind len skip octets some
 
@@ -85,11 +87,11 @@ parts_have len zero (octet ∷ octets) some few whole = absurd (omega arith)
 parts_have len (suc count) (octet ∷ octets) some few whole =
     let split = whole_parts len (length (octet ∷ octets)) some (omega arith) whole in
     let rest : length (drop len (octet ∷ octets)) ≡ length (octet ∷ octets) - len =
-        length-drop len (octet ∷ octets) in
+    length-drop len (octet ∷ octets) in
     let others = parts_have len count (drop len (octet ∷ octets)) some (omega (arith, split.0))
-        (ap (λ n. n % len) rest ∙ split.1) in
+    (ap (λ n. n % len) rest ∙ split.1) in
     subst (Each (λ part. length part ≡ len))
-        (sym (parts-first len (octet ∷ octets) some (omega arith)))
+    (sym (parts-first len (octet ∷ octets) some (omega arith)))
     (omega (arith, length-take len (octet ∷ octets), split.0), others)
 
 -- each part has its length
@@ -128,7 +130,7 @@ pub concat-whole : (len : ℕ) (items : List (List ℕ)) → 0 < len
 concat-whole len [] some are = mod-eq_of_lt some
 concat-whole len (item ∷ items) some are =
     ap (λ n. n % len)
-        (length-append item (concat items) ∙ ap (λ n. n + length (concat items)) are.0)
+    (length-append item (concat items) ∙ ap (λ n. n + length (concat items)) are.0)
     ∙ add-mod_left len (length (concat items)) ∙ concat-whole len items some are.1
 
 -- ---- numbers
@@ -198,12 +200,12 @@ numbers_written zero (octet ∷ octets) few are whole = absurd (omega arith)
 numbers_written (suc count) (octet ∷ octets) few are whole =
     let split = whole_parts 2 (length (octet ∷ octets)) (omega arith) (omega arith) whole in
     let rest : length (drop 2 (octet ∷ octets)) ≡ length (octet ∷ octets) - 2 =
-        length-drop 2 (octet ∷ octets) in
+    length-drop 2 (octet ∷ octets) in
     let two : length (take 2 (octet ∷ octets)) ≡ 2 =
-        omega (arith, length-take 2 (octet ∷ octets), split.0) in
+    omega (arith, length-take 2 (octet ∷ octets), split.0) in
     let here : AreOctets (take 2 (octet ∷ octets)) = AreOctets-take 2 (octet ∷ octets) are in
     let others = numbers_written count (drop 2 (octet ∷ octets)) (omega (arith, split.0))
-        (AreOctets-drop 2 (octet ∷ octets) are) (ap (λ n. n % 2) rest ∙ split.1) in
+    (AreOctets-drop 2 (octet ∷ octets) are) (ap (λ n. n % 2) rest ∙ split.1) in
     let first = numbers-first (octet ∷ octets) (omega arith) in (
       ap numbers16_wire first
           ∙ ap (λ front. front ++ numbers16_wire (numbers (drop 2 (octet ∷ octets))))
@@ -275,7 +277,7 @@ pub protocols-protocols_wire : (items : List (List ℕ)) → protocols (protocol
 protocols-protocols_wire [] = refl
 protocols-protocols_wire (item ∷ items) =
     protocols-first (length item ∷ item ++ protocols_wire items) (item ++ protocols_wire items)
-        (length item) refl
+    (length item) refl
     ∙ ap (λ front. front ∷ protocols (drop (length item) (item ++ protocols_wire items)))
     (take-append_seam item (protocols_wire items))
     ∙ ap (λ rest. item ∷ protocols rest) (drop-append_seam item (protocols_wire items))
@@ -285,20 +287,20 @@ pub protocols_wire-whole : (items : List (List ℕ)) → are_whole (protocols_wi
 protocols_wire-whole [] = refl
 protocols_wire-whole (item ∷ items) =
     are_whole-first (length item ∷ item ++ protocols_wire items) (item ++ protocols_wire items)
-        (length item) refl (omega (arith, length-append item (protocols_wire items)))
+    (length item) refl (omega (arith, length-append item (protocols_wire items)))
     ∙ ap are_whole (drop-append_seam item (protocols_wire items)) ∙ protocols_wire-whole items
 
 protocols_written : (count : ℕ) (octets : List ℕ) → length octets ≤ count → AreOctets octets
     → are_whole octets ≡ true
     → (protocols_wire (protocols octets) ≡ octets)
-        × Each (λ protocol. length protocol < 256) (protocols octets)
+    × Each (λ protocol. length protocol < 256) (protocols octets)
 protocols_written count [] few are whole = (refl, tt)
 protocols_written zero (len ∷ octets) few are whole = absurd (omega arith)
 protocols_written (suc count) (len ∷ octets) few are whole =
     let there : len ≤ length octets = are_whole-fits len octets whole in
     let rest : length (drop len octets) ≡ length octets - len = length-drop len octets in
     let others = protocols_written count (drop len octets) (omega arith)
-        (AreOctets-drop len octets are.1) (sym (are_whole_behind-drop len octets there) ∙ whole) in
+    (AreOctets-drop len octets are.1) (sym (are_whole_behind-drop len octets there) ∙ whole) in
     let long : length (take len octets) ≡ len = omega (arith, length-take len octets) in
     let first = protocols-first (len ∷ octets) octets len refl in (
       ap protocols_wire first

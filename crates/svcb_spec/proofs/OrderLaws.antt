@@ -39,7 +39,7 @@ slice_cmp-append [] (x' ∷ xs') ys ys' long = absurd (omega arith)
 slice_cmp-append (x ∷ xs) [] ys ys' long = absurd (omega arith)
 slice_cmp-append (x ∷ xs) (x' ∷ xs') ys ys' long =
     ap (ordering_then (nat_cmp x x')) (slice_cmp-append xs xs' ys ys' (omega arith))
-        ∙ sym (then_assoc (nat_cmp x x') (slice_cmp nat_cmp xs xs') (slice_cmp nat_cmp ys ys'))
+    ∙ sym (then_assoc (nat_cmp x x') (slice_cmp nat_cmp xs xs') (slice_cmp nat_cmp ys ys'))
 
 -- the order of numbers is that of their octets
 pub be2-order : (p q : ℕ) → slice_cmp nat_cmp (be2 p) (be2 q) ≡ nat_cmp p q
@@ -49,8 +49,8 @@ be2-order p q = elim (cases_lt (p / 256) (q / 256)) [
   | inr not_high ↦ elim (cases_eq (p / 256) (q / 256)) [
     | inl same ↦
         ap (λ o. ordering_then o (ordering_then (nat_cmp (p % 256) (q % 256)) Equal))
-            (equal (p / 256) (q / 256) same) ∙ then_equal (nat_cmp (p % 256) (q % 256))
-            ∙ by_low p q same
+        (equal (p / 256) (q / 256) same) ∙ then_equal (nat_cmp (p % 256) (q % 256))
+        ∙ by_low p q same
     | inr apart ↦ ap (λ o. ordering_then o (ordering_then (nat_cmp (p % 256) (q % 256)) Equal))
         (greater (p / 256) (q / 256) (omega arith)) ∙ sym (greater p q (omega arith))
   ]
@@ -80,43 +80,43 @@ first_apart x y xs ys xs' ys' after apart = elim (cases_lt x y) [
       (greater x y (omega arith)))
 ]
 
--- no name's octets are a front of another's, so names decide before what stands behind them
+-- no name's octets are a prefix of another's, so names decide before what stands behind them
 pub name_wire-order : (labels labels' : List (List ℕ)) (octets octets' : ℕ) (xs ys : List ℕ)
     → AreLabels octets labels → AreLabels octets' labels'
     → slice_cmp nat_cmp (name_wire labels ++ xs) (name_wire labels' ++ ys)
-        ≡ ordering_then (slice_cmp nat_cmp (name_wire labels) (name_wire labels'))
-        (slice_cmp nat_cmp xs ys)
+    ≡ ordering_then (slice_cmp nat_cmp (name_wire labels) (name_wire labels'))
+    (slice_cmp nat_cmp xs ys)
 name_wire-order [] [] octets octets' xs ys are are' = refl
 name_wire-order [] (label' ∷ labels') octets octets' xs ys are are' =
     first_apart 0 (length label') xs ((label' ++ name_wire labels') ++ ys) []
-        (label' ++ name_wire labels') (slice_cmp nat_cmp xs ys) (λ same. omega (arith, are'.0))
+    (label' ++ name_wire labels') (slice_cmp nat_cmp xs ys) (λ same. omega (arith, are'.0))
 name_wire-order (label ∷ labels) [] octets octets' xs ys are are' =
     first_apart (length label) 0 ((label ++ name_wire labels) ++ xs) ys (label ++ name_wire labels)
-        [] (slice_cmp nat_cmp xs ys) (λ same. omega (arith, are.0))
+    [] (slice_cmp nat_cmp xs ys) (λ same. omega (arith, are.0))
 name_wire-order (label ∷ labels) (label' ∷ labels') octets octets' xs ys are are' =
     elim (cases_eq (length label) (length label')) [
-  | inl same ↦
-      let rest = name_wire-order labels labels' (octets + length label + 1)
+      | inl same ↦
+          let rest = name_wire-order labels labels' (octets + length label + 1)
           (octets' + length label' + 1) xs ys are.3 are'.3 in
-      let long : length (length label ∷ label) ≡ length (length label' ∷ label') = omega arith in
-      let head : Ordering = slice_cmp nat_cmp (length label ∷ label) (length label' ∷ label') in
-      let tail : Ordering = slice_cmp nat_cmp (name_wire labels) (name_wire labels') in
-      ap (λ zs. slice_cmp nat_cmp zs ((length label' ∷ label' ++ name_wire labels') ++ ys))
+          let long : length (length label ∷ label) ≡ length (length label' ∷ label') = omega arith in
+          let head : Ordering = slice_cmp nat_cmp (length label ∷ label) (length label' ∷ label') in
+          let tail : Ordering = slice_cmp nat_cmp (name_wire labels) (name_wire labels') in
+          ap (λ zs. slice_cmp nat_cmp zs ((length label' ∷ label' ++ name_wire labels') ++ ys))
           (append_assoc (length label ∷ label) (name_wire labels) xs)
-      ∙ ap (λ zs. slice_cmp nat_cmp (length label ∷ label ++ (name_wire labels ++ xs)) zs)
-      (append_assoc (length label' ∷ label') (name_wire labels') ys)
-      ∙ slice_cmp-append (length label ∷ label) (length label' ∷ label') (name_wire labels ++ xs)
-      (name_wire labels' ++ ys) long
-      ∙ ap (ordering_then head) rest
-      ∙ sym (then_assoc head tail (slice_cmp nat_cmp xs ys))
-      ∙ ap (λ o. ordering_then o (slice_cmp nat_cmp xs ys))
-      (sym (slice_cmp-append (length label ∷ label) (length label' ∷ label') (name_wire labels)
-      (name_wire labels') long))
-  | inr apart ↦
-      first_apart (length label) (length label') ((label ++ name_wire labels) ++ xs)
+          ∙ ap (λ zs. slice_cmp nat_cmp (length label ∷ label ++ (name_wire labels ++ xs)) zs)
+          (append_assoc (length label' ∷ label') (name_wire labels') ys)
+          ∙ slice_cmp-append (length label ∷ label) (length label' ∷ label') (name_wire labels ++ xs)
+          (name_wire labels' ++ ys) long
+          ∙ ap (ordering_then head) rest
+          ∙ sym (then_assoc head tail (slice_cmp nat_cmp xs ys))
+          ∙ ap (λ o. ordering_then o (slice_cmp nat_cmp xs ys))
+          (sym (slice_cmp-append (length label ∷ label) (length label' ∷ label') (name_wire labels)
+          (name_wire labels') long))
+      | inr apart ↦
+          first_apart (length label) (length label') ((label ++ name_wire labels) ++ xs)
           ((label' ++ name_wire labels') ++ ys) (label ++ name_wire labels)
           (label' ++ name_wire labels') (slice_cmp nat_cmp xs ys) apart
-]
+    ]
 
 -- record data is ordered by its priority, then the octets of its target, then those of its
 -- parameters
@@ -128,7 +128,7 @@ pub rdata-order : (priority priority' : ℕ) (labels labels' : List (List ℕ)) 
     (slice_cmp nat_cmp (wire pairs) (wire pairs')))
 rdata-order priority priority' labels labels' pairs pairs' are are' =
     slice_cmp-append (be2 priority) (be2 priority') (name_wire labels ++ wire pairs)
-        (name_wire labels' ++ wire pairs') refl
+    (name_wire labels' ++ wire pairs') refl
     ∙ ap (λ o. ordering_then o
     (slice_cmp nat_cmp (name_wire labels ++ wire pairs) (name_wire labels' ++ wire pairs')))
     (be2-order priority priority')

@@ -15,8 +15,12 @@ pairs_step-alike : (f g : Reading) (message : List ℕ) (end pos : ℕ) (last : 
     → pairs_step f message end pos last ≡ pairs_step g message end pos last
 unfolding pairs_step
 pairs_step-alike f g message end pos last alike =
-    grind (arith, nat_tests, alike (pos + 4 + number_at message (pos + 2))
-        (Some (number_at message pos)))
+    grind (
+      arith,
+      nat_tests,
+      alike (pos + 4 + number_at message (pos + 2))
+          (Some (number_at message pos)),
+    )
 
 -- more steps than there are octets left read no further
 pairs_within-alike : (n k : ℕ) (message : List ℕ) (end pos : ℕ) (last : Option ℕ) → end - pos ≤ n
@@ -31,7 +35,7 @@ pairs_within-alike (suc n) zero message end pos last few_n few_k =
 pairs_within-alike (suc n) (suc k) message end pos last few_n few_k =
     pairs_step-alike _ _ message end pos last
     (λ pos' last' behind within. pairs_within-alike n k message end pos' last' (omega arith)
-        (omega arith))
+    (omega arith))
 
 -- `pairs_at` is its own step: the number of steps that it allows is of no account
 pub pairs_at-step : (message : List ℕ) (end pos : ℕ) (last : Option ℕ)
@@ -39,10 +43,10 @@ pub pairs_at-step : (message : List ℕ) (end pos : ℕ) (last : Option ℕ)
 unfolding pairs_at pairs_within
 pairs_at-step message end pos last =
     pairs_within-alike (end - pos) (suc (end - pos)) message end pos last (omega arith)
-        (omega arith)
+    (omega arith)
     ∙ pairs_step-alike _ _ message end pos last
     (λ pos' last' behind within. pairs_within-alike (end - pos) (end - pos') message end pos' last'
-        (omega arith) (omega arith))
+    (omega arith) (omega arith))
 
 module _ (message : List ℕ) (end pos : ℕ) (last : Option ℕ) where
   step_by : (answer : Result Pairs Fault) → pairs_step (pairs_at message end) message end pos last
@@ -77,13 +81,21 @@ module _ (message : List ℕ) (end pos : ℕ) (last : Option ℕ) where
   pub pairs_at-pair : is_above last (number_at message pos) ≡ true
       → pos + 4 + number_at message (pos + 2) ≤ end
       → pairs_at message end pos last
-      ≡ with_pair (number_at message pos, slice_range message (pos + 4)
-      (pos + 4 + number_at message (pos + 2)))
+      ≡ with_pair (
+        number_at message pos,
+        slice_range message (pos + 4)
+            (pos + 4 + number_at message (pos + 2)),
+      )
       (pairs_at message end (pos + 4 + number_at message (pos + 2)) (Some (number_at message pos)))
   unfolding pairs_step
   pairs_at-pair above here = step_by _ (grind (arith, nat_tests))
 
 -- every case of the pairs at a place
-pub ruleset pair_rules =
-    (pairs_at-end, pairs_at-short_key, pairs_at-low_key, pairs_at-short_len, pairs_at-short_value,
-    pairs_at-pair)
+pub ruleset pair_rules = (
+  pairs_at-end,
+  pairs_at-short_key,
+  pairs_at-low_key,
+  pairs_at-short_len,
+  pairs_at-short_value,
+  pairs_at-pair,
+)

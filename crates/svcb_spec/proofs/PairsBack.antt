@@ -15,7 +15,7 @@ use Rattle.svcb_spec.proofs.WireLaws.{wire-pairs, length-pair_wire}
 
 -- ---- octets at a place
 
--- the octets from a place on, behind a front of them
+-- the octets from a place on, behind a prefix of them
 pub drop-behind : (message front rest : List ℕ) (pos : ℕ) → drop pos message ≡ front ++ rest
     → drop (pos + length front) message ≡ rest
 drop-behind message front rest pos is =
@@ -28,21 +28,21 @@ pub slice_range-front : (message front rest : List ℕ) (pos to : ℕ) → to �
 slice_range-front message front rest pos to at is =
     let as_long : to - pos ≡ length front = omega arith in
     ap (λ n. take n (drop pos message)) as_long ∙ ap (take (length front)) is
-        ∙ take-append_seam front rest
+    ∙ take-append_seam front rest
 
 pub slice_index-first : (message rest : List ℕ) (octet pos : ℕ) → drop pos message ≡ octet ∷ rest
     → slice_index message pos ≡ octet
 slice_index-first message rest octet pos is =
     let here : pos + 0 ≡ pos = omega arith in
     ap (λ i. get_or message i 0) (sym here) ∙ sym (get_or-drop pos message 0 0)
-        ∙ ap (λ xs. get_or xs 0 0) is
+    ∙ ap (λ xs. get_or xs 0 0) is
 
 pub number_at-first : (message rest : List ℕ) (a b pos : ℕ) → drop pos message ≡ a ∷ b ∷ rest
     → number_at message pos ≡ a * 256 + b
 number_at-first message rest a b pos is =
     let high = slice_index-first message (b ∷ rest) a pos is in
     let low = slice_index-first message rest b (pos + 1)
-        (drop-behind message (a ∷ []) (b ∷ rest) pos is) in
+    (drop-behind message (a ∷ []) (b ∷ rest) pos is) in
     ap (λ n. n * 256 + slice_index message (pos + 1)) high ∙ ap (λ n. a * 256 + n) low
 
 pub number_at-be2 : (message rest : List ℕ) (n pos : ℕ) → drop pos message ≡ be2 n ++ rest
@@ -60,7 +60,7 @@ above-least (Some last) key least = grind (arith, nat_tests)
 pub pairs_at-back : (message behind : List ℕ) (pairs : Pairs) (end pos : ℕ) (last : Option ℕ)
     → drop pos message ≡ pairs_wire pairs ++ behind
     → end ≡ pos + length (pairs_wire pairs) → Ascends (least_above last) pairs
-        → pairs_at message end pos last ≡ Ok pairs
+    → pairs_at message end pos last ≡ Ok pairs
 pairs_at-back message behind [] end pos last is at up =
     pairs_at-end message end pos last (omega arith)
 pairs_at-back message behind (pair ∷ pairs) end pos last is at up =
@@ -69,30 +69,34 @@ pairs_at-back message behind (pair ∷ pairs) end pos last is at up =
     let front : List ℕ = be2 key ++ be2 (length value) in
     let rest : List ℕ = pairs_wire pairs ++ behind in
     let spread : (be2 key ++ be2 (length value) ++ value) ++ pairs_wire pairs
-        ≡ pairs_wire (pair ∷ pairs) = refl in
+    ≡ pairs_wire (pair ∷ pairs) = refl in
     let all : drop pos message ≡ front ++ (value ++ rest) =
-        is ∙ append_assoc (be2 key ++ be2 (length value) ++ value) (pairs_wire pairs) behind
-        ∙ append_assoc front value rest in
+    is ∙ append_assoc (be2 key ++ be2 (length value) ++ value) (pairs_wire pairs) behind
+    ∙ append_assoc front value rest in
     let is_key : number_at message pos ≡ key =
-        number_at-be2 message (be2 (length value) ++ value ++ rest) key pos all in
+    number_at-be2 message (be2 (length value) ++ value ++ rest) key pos all in
     let at_len : drop (pos + 2) message ≡ be2 (length value) ++ (value ++ rest) =
-        drop-behind message (be2 key) (be2 (length value) ++ (value ++ rest)) pos all in
+    drop-behind message (be2 key) (be2 (length value) ++ (value ++ rest)) pos all in
     let is_len : number_at message (pos + 2) ≡ length value =
-        number_at-be2 message (value ++ rest) (length value) (pos + 2) at_len in
+    number_at-be2 message (value ++ rest) (length value) (pos + 2) at_len in
     let at_value : drop (pos + 4) message ≡ value ++ rest =
-        drop-behind message front (value ++ rest) pos all in
+    drop-behind message front (value ++ rest) pos all in
     let is_value : slice_range message (pos + 4) (pos + 4 + length value) ≡ value =
-        slice_range-front message value rest (pos + 4) (pos + 4 + length value) refl at_value in
+    slice_range-front message value rest (pos + 4) (pos + 4 + length value) refl at_value in
     let at_rest : drop (pos + 4 + length value) message ≡ rest =
-        drop-behind message value rest (pos + 4) at_value in
+    drop-behind message value rest (pos + 4) at_value in
     let long : length (pairs_wire (pair ∷ pairs)) ≡ 4 + length value + length (pairs_wire pairs) =
-    omega (arith, length-append (be2 key ++ be2 (length value) ++ value)
-        (pairs_wire pairs), length-pair_wire key value) in
+    omega (
+      arith,
+      length-append (be2 key ++ be2 (length value) ++ value)
+          (pairs_wire pairs),
+      length-pair_wire key value,
+    ) in
     let others : pairs_at message end (pos + 4 + length value) (Some key) ≡ Ok pairs =
-        pairs_at-back message behind pairs end (pos + 4 + length value) (Some key) at_rest
-        (omega arith) up.3 in
+    pairs_at-back message behind pairs end (pos + 4 + length value) (Some key) at_rest
+    (omega arith) up.3 in
     let above : is_above last (number_at message pos) ≡ true =
-        ap (is_above last) is_key ∙ above-least last key up.0 in
+    ap (is_above last) is_key ∙ above-least last key up.0 in
     pairs_at-pair message end pos last above (omega arith)
     ∙ ap (λ n. with_pair (number_at message pos, slice_range message (pos + 4) (pos + 4 + n))
     (pairs_at message end (pos + 4 + n) (Some (number_at message pos)))) is_len
@@ -109,7 +113,7 @@ pairs_at-wire pairs is_map =
     let in_order : wire pairs ≡ pairs_wire pairs = wire-pairs pairs is_map in
     let as_long : length (wire pairs) ≡ length (pairs_wire pairs) = ap length in_order in
     pairs_at-back (wire pairs) [] pairs (length (wire pairs)) 0 None
-        (in_order ∙ sym (append-nil (pairs_wire pairs))) (omega arith) is_map
+    (in_order ∙ sym (append-nil (pairs_wire pairs))) (omega arith) is_map
 
 -- ---- octets of pairs that were read
 
@@ -121,7 +125,7 @@ drop-first (suc pos) [] within = absurd (omega arith)
 drop-first (suc pos) (octet ∷ message) within =
     let on : suc pos + 1 ≡ suc (pos + 1) = omega arith in
     drop-first pos message (omega arith)
-        ∙ ap (λ n. slice_index message pos ∷ drop n (octet ∷ message)) (sym on)
+    ∙ ap (λ n. slice_index message pos ∷ drop n (octet ∷ message)) (sym on)
 
 split_number : (a b : ℕ) (rest : List ℕ) → a < 256 → b < 256
     → be2 (a * 256 + b) ++ rest ≡ a ∷ b ∷ rest
@@ -137,7 +141,7 @@ module _ (message : List ℕ) (small : (i : ℕ) → slice_index message i < 256
   be2-number_at pos within =
       let on : pos + 1 + 1 ≡ pos + 2 = omega arith in
       split_number (slice_index message pos) (slice_index message (pos + 1))
-          (drop (pos + 2) message) (small pos) (small (pos + 1))
+      (drop (pos + 2) message) (small pos) (small (pos + 1))
       ∙ ap (λ n. slice_index message pos ∷ slice_index message (pos + 1) ∷ drop n message) (sym on)
       ∙ ap (λ rest. slice_index message pos ∷ rest)
       (sym (drop-first (pos + 1) message (omega arith)))
@@ -168,7 +172,7 @@ module _ (message : List ℕ) (small : (i : ℕ) → slice_index message i < 256
         let is : pairs ≡ (key, value) ∷ pairs' = grind (arith, nat_tests) in
         let long : length value ≡ len = length-slice_range message (pos + 4) len (omega arith) in
         let rest : pairs_wire pairs' ++ drop end message ≡ drop (pos + 4 + len) message =
-            later within pairs' refl in
+        later within pairs' refl in
         ap (λ ps. pairs_wire ps ++ drop end message) is
         ∙ append_assoc (be2 key ++ be2 (length value) ++ value) (pairs_wire pairs')
         (drop end message)
@@ -203,7 +207,7 @@ module _ (message : List ℕ) (small : (i : ℕ) → slice_index message i < 256
           (sym (pairs_at-step message end pos last) ∙ read)
       | inr apart ↦ read_pair pos last _ pairs apart here refl
           (λ within. pairs_are steps (pos + 4 + number_at message (pos + 2))
-              (Some (number_at message pos)) (omega arith) within)
+          (Some (number_at message pos)) (omega arith) within)
           (sym (pairs_at-step message end pos last) ∙ read)
     ]
 
@@ -220,7 +224,7 @@ pub wire-pairs_at : (octets : List ℕ) (pairs : Pairs) → ((i : ℕ) → slice
     → IsMap pairs × (wire pairs ≡ octets)
 wire-pairs_at octets pairs small read =
     let known = pairs_at-read octets (length octets) small (omega arith) 0 None pairs
-        (omega arith) read in (
+    (omega arith) read in (
       known.ascend,
       wire-pairs pairs known.ascend
           ∙ sym (append-nil (pairs_wire pairs))

@@ -14,7 +14,7 @@ module _ (message : List ℕ) (start len : ℕ) where
   pub slice_index-part : (i : ℕ) → i < len → slice_index part i ≡ slice_index message (start + i)
   slice_index-part i within =
       get_or-take (start + len - start) (drop start message) i 0 (omega arith)
-          ∙ get_or-drop start message i 0
+      ∙ get_or-drop start message i 0
 
   -- a number in the part
   pub number_at-part : (pos pos' : ℕ) → pos' ≡ start + pos → pos + 2 ≤ len
@@ -42,21 +42,28 @@ module _ (message : List ℕ) (start len : ℕ) where
 pairs_step-part : (f g : ℕ → Option ℕ → Result Pairs Fault) (message : List ℕ) (start len pos : ℕ)
     (last : Option ℕ) → pos ≤ len
     → ((pos' : ℕ) (last' : Option ℕ) → pos < pos' → pos' ≤ len
-        → f pos' last' ≡ g (start + pos') last')
+    → f pos' last' ≡ g (start + pos') last')
     → pairs_step f (slice_range message start (start + len)) len pos last
     ≡ pairs_step g message (start + len) (start + pos) last
 unfolding pairs_step
 pairs_step-part f g message start len pos last here alike =
     let key = number_at message (start + pos) in
     let n = number_at message (start + pos + 2) in
-    grind (arith, nat_tests, number_at-part message start len pos
-        (start + pos) refl, number_at-part message start len (pos + 2)
-        (start + pos + 2), slice_range-part message start len (pos + 4) (pos + 4 + n)
-        (start + pos + 4) (start + pos + 4 + n), alike (pos + 4 + n) (Some key))
+    grind (
+      arith,
+      nat_tests,
+      number_at-part message start len pos
+          (start + pos) refl,
+      number_at-part message start len (pos + 2)
+          (start + pos + 2),
+      slice_range-part message start len (pos + 4) (pos + 4 + n)
+          (start + pos + 4) (start + pos + 4 + n),
+      alike (pos + 4 + n) (Some key),
+    )
 
 pairs_within-part : (n : ℕ) (message : List ℕ) (start len pos : ℕ) (last : Option ℕ) → pos ≤ len
     → pairs_within n (slice_range message start (start + len)) len pos last
-        ≡ pairs_within n message (start + len) (start + pos) last
+    ≡ pairs_within n message (start + len) (start + pos) last
 unfolding pairs_within
 pairs_within-part zero message start len pos last here =
     pairs_step-part _ _ message start len pos last here (λ pos' last' behind within. refl)
@@ -67,7 +74,7 @@ pairs_within-part (suc n) message start len pos last here =
 -- a part of a message, read by itself, has the same pairs
 pub pairs_at-part : (message : List ℕ) (start len pos : ℕ) (last : Option ℕ) → pos ≤ len
     → pairs_at (slice_range message start (start + len)) len pos last
-        ≡ pairs_at message (start + len) (start + pos) last
+    ≡ pairs_at message (start + len) (start + pos) last
 unfolding pairs_at
 pairs_at-part message start len pos last here =
     let steps : start + len - (start + pos) ≡ len - pos = omega arith in

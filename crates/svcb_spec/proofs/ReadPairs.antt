@@ -63,8 +63,14 @@ module _ (message : List ℕ) (end : ℕ) (small : (i : ℕ) → slice_index mes
         rw is
         (record {
           ascend = (least_above-is_above last key above, small_number pos, few, rest.ascend);
-          len = omega (arith, length-pair_wire key value, length-append
-              (pair_wire key (Some value)) (pairs_wire pairs'), rest.len, long);
+          len = omega (
+            arith,
+            length-pair_wire key value,
+            length-append
+                (pair_wire key (Some value)) (pairs_wire pairs'),
+            rest.len,
+            long,
+          );
         })
 
     read_none : (pairs : Pairs) → pos ≡ end
@@ -86,7 +92,7 @@ module _ (message : List ℕ) (end : ℕ) (small : (i : ℕ) → slice_index mes
             (sym (pairs_at-step message end pos last) ∙ read)
         | inr apart ↦ read_first pos last _ pairs apart here refl
             (λ pairs' within read'. pairs_read steps (pos + 4 + number_at message (pos + 2))
-                (Some (number_at message pos)) pairs' (omega arith) within read')
+            (Some (number_at message pos)) pairs' (omega arith) within read')
             (sym (pairs_at-step message end pos last) ∙ read)
       ]
 

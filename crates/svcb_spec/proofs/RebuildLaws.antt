@@ -65,8 +65,8 @@ value_at-put (pair ∷ pairs) key value = elim (cases_lt key pair.0) [
         ∙ first_value key (pair.0, value) pairs same
     | inr apart ↦
         ap (λ ps. value_at ps key) (put_behind pair pairs key value (omega arith))
-            ∙ later_value key pair (insert_entry nat_cmp pairs key value) apart
-            ∙ value_at-put pairs key value
+        ∙ later_value key pair (insert_entry nat_cmp pairs key value) apart
+        ∙ value_at-put pairs key value
   ]
 ]
 
@@ -114,7 +114,7 @@ accept-map pairs limit [] is_map are = is_map
 accept-map pairs limit (value ∷ values) is_map are =
     let reply = reply_to pairs limit (key_of value) (encode value) in
     accept-map (pairs_after reply pairs (key_of value) (encode value)) limit values
-        (after-map reply pairs value is_map are.0) are.1
+    (after-map reply pairs value is_map are.0) are.1
 
 duplicate : (pairs : Pairs) (limit key : ℕ) (octets held : List ℕ) → value_at pairs key ≡ Some held
     → reply_to pairs limit key octets ≡ DuplicateKey
@@ -124,12 +124,12 @@ duplicate pairs limit key octets held there = rw there refl
 after-kept : (pairs : Pairs) (limit : ℕ) (value : Value) (key : ℕ) (held : List ℕ)
     → value_at pairs key ≡ Some held
     → value_at (pairs_after (reply_to pairs limit (key_of value) (encode value)) pairs
-        (key_of value) (encode value)) key ≡ Some held
+    (key_of value) (encode value)) key ≡ Some held
 after-kept pairs limit value key held there = elim (cases_eq key (key_of value)) [
   | inl same ↦
       ap (λ r. value_at (pairs_after r pairs (key_of value) (encode value)) key)
-          (duplicate pairs limit (key_of value) (encode value) held
-          (ap (value_at pairs) (sym same) ∙ there)) ∙ there
+      (duplicate pairs limit (key_of value) (encode value) held
+      (ap (value_at pairs) (sym same) ∙ there)) ∙ there
   | inr apart ↦ by_reply (reply_to pairs limit (key_of value) (encode value)) apart
 ]
   where
@@ -147,7 +147,7 @@ accept-kept pairs limit [] key held there = there
 accept-kept pairs limit (value ∷ values) key held there =
     let reply = reply_to pairs limit (key_of value) (encode value) in
     accept-kept (pairs_after reply pairs (key_of value) (encode value)) limit values key held
-        (after-kept pairs limit value key held there)
+    (after-kept pairs limit value key held there)
 
 -- a value that was accepted is the one under its key
 pub accept-holds : (pairs : Pairs) (limit : ℕ) (values : List Value)
@@ -159,7 +159,7 @@ accept-holds pairs limit (value ∷ values) =
       λ is. accept-kept (pairs_after reply pairs (key_of value) (encode value)) limit values
           (key_of value) (encode value)
           (ap (λ r. value_at (pairs_after r pairs (key_of value) (encode value)) (key_of value)) is
-              ∙ value_at-put pairs (key_of value) (encode value)),
+          ∙ value_at-put pairs (key_of value) (encode value)),
       accept-holds (pairs_after reply pairs (key_of value) (encode value)) limit values,
     )
 
@@ -168,14 +168,16 @@ accept-holds pairs limit (value ∷ values) =
 -- what is known of a result
 record IsDone (found : Record) (values : List Value) (limit : ℕ) (done : Rebuilt) : Type 0 where
   few : length (record_octets (with_accepted found values limit)) < 65536
-  is : done ≡ record { octets = record_octets (with_accepted found values limit);
-      replies = (accept found.pairs limit values).replies }
+  is : done ≡ record {
+    octets = record_octets (with_accepted found values limit);
+    replies = (accept found.pairs limit values).replies;
+  }
 
 read_done : (found : Record) (values : List Value) (limit : ℕ) (done : Rebuilt)
     → rebuild_read found values limit ≡ Ok done → IsDone found values limit done
 read_done found values limit done is =
     let few : length (record_octets (with_accepted found values limit)) < 65536 =
-        grind (arith, nat_tests) in
+    grind (arith, nat_tests) in
     record {
       few = few;
       is = grind (arith, nat_tests);
@@ -194,7 +196,7 @@ module _ (message : List ℕ) (start len : ℕ) (values : List Value) (limit : �
   accepted_is : IsRecord (with_accepted found values limit)
   accepted_is =
       let was = IsRecord-read message start len found
-          (small_octets message is.octets) is.in_message is.read in
+      (small_octets message is.octets) is.in_message is.read in
       record {
         priority = was.priority;
         labels = was.labels;
@@ -215,13 +217,13 @@ module _ (message : List ℕ) (start len : ℕ) (values : List Value) (limit : �
   -- and rebuilt with no pushes it stays
   pub rebuilt_again : (other : ℕ) → length (wire (with_accepted found values limit).pairs) ≤ other
       → rebuild done.octets 0 (length done.octets) [] other
-          ≡ Ok (record { octets = done.octets; replies = [] })
+      ≡ Ok (record { octets = done.octets; replies = [] })
   unfolding rebuild accept
   rebuilt_again other within =
       let final = with_accepted found values limit in
       let e1 : nat_lt other (length (wire final.pairs)) ≡ false = grind (arith, nat_tests) in
       let e2 : nat_lt 65535 (length (record_octets final)) ≡ false =
-          (let few = known.few in grind (arith, nat_tests)) in
+      (let few = known.few in grind (arith, nat_tests)) in
       ap (λ r. rebuild_of r [] other) rebuilt_read_back
       ∙ rw (e1, e2) refl
       ∙ ap (λ (octets : List ℕ). Ok (record { octets = octets; replies = [] })) (sym done_octets)
@@ -230,7 +232,7 @@ module _ (message : List ℕ) (start len : ℕ) (values : List Value) (limit : �
 pub canonical_form : (message : List ℕ) (start len : ℕ) (values : List Value) (limit : ℕ)
     (found : Record) (done : Rebuilt)
     → (message' : List ℕ) (start' len' : ℕ) (values' : List Value) (limit' : ℕ) (found' : Record)
-        (done' : Rebuilt)
+    (done' : Rebuilt)
     → IsRebuilding message start len values limit found done
     → IsRebuilding message' start' len' values' limit' found' done'
     → (done.octets ≡ done'.octets)

@@ -27,7 +27,7 @@ length-record_octets found =
 read_by : (message : List ℕ) (start len : ℕ) (name : NameRead) (pairs : Pairs) → len < 65536
     → 2 ≤ len
     → name_at message (start + len) (start + 2) 0 0 ≡ Ok name
-        → pairs_at message (start + len) name.next None ≡ Ok pairs
+    → pairs_at message (start + len) name.next None ≡ Ok pairs
     → 2 + length (name_wire name.labels) + length (wire pairs) < 65536
     → read message start len
     ≡ Ok (record { priority = number_at message start; labels = name.labels; pairs = pairs })
@@ -36,7 +36,7 @@ read_by message start len name pairs few some name_is pairs_are all_few =
     let e1 : nat_lt 65535 len ≡ false = grind (arith, nat_tests) in
     let e2 : nat_lt len 2 ≡ false = grind (arith, nat_tests) in
     let e3 : nat_lt 65535 (2 + length (name_wire name.labels) + length (wire pairs)) ≡ false =
-        grind (arith, nat_tests) in
+    grind (arith, nat_tests) in
     rw (e1, e2, name_is, pairs_are, e3) refl
 
 -- the octets of a record are read as that record
@@ -49,22 +49,22 @@ read-rdata found is =
     let in_order : wire found.pairs ≡ pairs_wire found.pairs = wire-pairs found.pairs is.is_map in
     let all : drop 0 octets ≡ be2 found.priority ++ (name ++ wire found.pairs) = refl in
     let at_name : drop (0 + 2) octets ≡ name ++ wire found.pairs =
-        drop-behind octets (be2 found.priority) (name ++ wire found.pairs) 0 all in
+    drop-behind octets (be2 found.priority) (name ++ wire found.pairs) 0 all in
     let at_pairs : drop (2 + length name) octets ≡ pairs_wire found.pairs ++ [] =
-        drop-behind octets name (wire found.pairs) 2 at_name ∙ in_order
-        ∙ sym (append-nil (pairs_wire found.pairs)) in
+    drop-behind octets name (wire found.pairs) 2 at_name ∙ in_order
+    ∙ sym (append-nil (pairs_wire found.pairs)) in
     let long : length octets ≡ 2 + length name + length (wire found.pairs) =
-        length-record_octets found in
+    length-record_octets found in
     let as_long : length (wire found.pairs) ≡ length (pairs_wire found.pairs) = ap length in_order
-        in
+    in
     let name_is = name_at-wire found.labels octets (wire found.pairs) end 2 0 0 is.labels
-        (omega arith) at_name in
+    (omega arith) at_name in
     let pairs_are =
-        pairs_at-back octets [] found.pairs end (2 + length name) None at_pairs
-        (omega arith) is.is_map in
+    pairs_at-back octets [] found.pairs end (2 + length name) None at_pairs
+    (omega arith) is.is_map in
     let few = is.fits in
     read_by octets 0 (length octets) (record { labels = found.labels; next = 2 + length name })
-        found.pairs few (omega arith) name_is pairs_are (omega arith)
+    found.pairs few (omega arith) name_is pairs_are (omega arith)
     ∙ ap (λ (priority : ℕ). Ok
     (record { priority = priority; labels = found.labels; pairs = found.pairs }))
     (number_at-be2 octets (name ++ wire found.pairs) found.priority 0 all)
@@ -105,12 +105,12 @@ module _ (message : List ℕ) (start len : ℕ) (found : Record) where
       let few : len < 65536 = grind (arith, nat_tests) in
       let some : 2 ≤ len = grind (arith, nat_tests) in
       let same : found
-          ≡ record { priority = number_at message start; labels = name.labels; pairs = pairs } =
-          grind (arith, nat_tests) in
+      ≡ record { priority = number_at message start; labels = name.labels; pairs = pairs } =
+      grind (arith, nat_tests) in
       let all_few : 2 + length (name_wire name.labels) + length (wire pairs) < 65536 =
-          grind (arith, nat_tests) in
+      grind (arith, nat_tests) in
       let long = length-record_octets
-          (record { priority = number_at message start; labels = name.labels; pairs = pairs }) in
+      (record { priority = number_at message start; labels = name.labels; pairs = pairs }) in
       rw same (record {
         few = few;
         some = some;
@@ -138,7 +138,7 @@ read_within : (message : List ℕ) (end pos : ℕ) (pairs : Pairs)
 unfolding pairs_step
 read_within message end pos pairs is = ⊎_elim
     (λ (past : end < pos). absurd (let by_step = sym (pairs_at-step message end pos None) ∙ is
-        in grind (arith, nat_tests)))
+    in grind (arith, nat_tests)))
     (λ (here : pos ≤ end). here)
     (cases_lt end pos)
 
@@ -149,10 +149,10 @@ pub IsRecord-read : (message : List ℕ) (start len : ℕ) (found : Record)
 IsRecord-read message start len found small in_message is =
     let parts = read_parts message start len found is in
     let labels = AreLabels-read message (start + len) (start + 2) 0 0 parts.name in_message
-        parts.name_is in
+    parts.name_is in
     let known = pairs_at-read message (start + len) small in_message parts.name.next None
-        found.pairs (read_within message (start + len) parts.name.next found.pairs parts.pairs_are)
-        parts.pairs_are in
+    found.pairs (read_within message (start + len) parts.name.next found.pairs parts.pairs_are)
+    parts.pairs_are in
     let high = small start in
     let low = small (start + 1) in
     record {

@@ -51,8 +51,8 @@ module _ (message : List ℕ) (end cut : ℕ) (within : cut ≤ end) where
   -- the data may end before the pair at a place, within it, or behind it
   pairs_by_pair : (pos : ℕ) (last : Option ℕ) (whole : Pairs)
       → (behind pos ≤ cut → (pairs : Pairs)
-          → pairs_at message end (behind pos) (Some (number_at message pos)) ≡ Ok pairs
-          → CutPairs (pairs_at message cut (behind pos) (Some (number_at message pos))) pairs)
+      → pairs_at message end (behind pos) (Some (number_at message pos)) ≡ Ok pairs
+      → CutPairs (pairs_at message cut (behind pos) (Some (number_at message pos))) pairs)
       → pairs_at message end pos last ≡ Ok whole → CutPairs (pairs_at message cut pos last) whole
   pairs_by_pair pos last whole later is = elim (cases_eq pos cut) [
     | inl at_cut ↦ inr ([], whole, pairs_at-end message cut pos last at_cut, refl)
@@ -64,13 +64,13 @@ module _ (message : List ℕ) (end cut : ℕ) (within : cut ≤ end) where
           | inr here ↦
               let above = key_above pos last whole here by_step in
               let pair : Pair = (number_at message pos, slice_range message (pos + 4) (behind pos))
-                  in
+              in
               let rest = pairs_at message end (behind pos) (Some (number_at message pos)) in
               let first = with_pair-ok pair rest whole
-                  (sym (pairs_at-pair message end pos last above (omega arith)) ∙ is) in
+              (sym (pairs_at-pair message end pos last above (omega arith)) ∙ is) in
               let cut_rest = pairs_at message cut (behind pos) (Some (number_at message pos)) in
               rw (pairs_at-pair message cut pos last above here, ← first.2)
-                  (with_pair-cut pair cut_rest first.0 (later here first.0 first.1))
+              (with_pair-cut pair cut_rest first.0 (later here first.0 first.1))
         ]
   ]
 
@@ -80,8 +80,8 @@ module _ (message : List ℕ) (end cut : ℕ) (within : cut ≤ end) where
       pairs_by_pair pos last whole (λ here pairs read. absurd (omega arith)) is
   pairs_cut (suc steps) pos last whole few is =
       pairs_by_pair pos last whole
-          (λ here pairs read. pairs_cut steps (behind pos) (Some (number_at message pos)) pairs
-          (omega arith) read) is
+      (λ here pairs read. pairs_cut steps (behind pos) (Some (number_at message pos)) pairs
+      (omega arith) read) is
 
   pub pairs_at-cut : (pos : ℕ) (last : Option ℕ) (whole : Pairs)
       → pairs_at message end pos last ≡ Ok whole → CutPairs (pairs_at message cut pos last) whole
@@ -103,9 +103,13 @@ wire_from-prefix zero key pairs rest = omega arith
 wire_from-prefix (suc count) key pairs rest =
     let first = pair_wire-prefix key pairs rest in
     let later = wire_from-prefix count (key + 1) pairs rest in
-    omega (arith, length-append (pair_wire key (value_at pairs key))
-        (wire_from count (key + 1) pairs), length-append
-        (pair_wire key (value_at (pairs ++ rest) key)) (wire_from count (key + 1) (pairs ++ rest)))
+    omega (
+      arith,
+      length-append (pair_wire key (value_at pairs key))
+          (wire_from count (key + 1) pairs),
+      length-append
+          (pair_wire key (value_at (pairs ++ rest) key)) (wire_from count (key + 1) (pairs ++ rest)),
+    )
 
 wire-prefix : (pairs rest : Pairs) → length (wire pairs) ≤ length (wire (pairs ++ rest))
 unfolding wire
@@ -143,7 +147,7 @@ module _ (message : List ℕ) (start len n : ℕ) (whole : Record) (shorter : n 
   -- data that ends behind the name or behind a pair
   read_prefix : (name : NameRead) (pairs rest : Pairs) → 2 ≤ n
       → name_at message (start + n) (start + 2) 0 0 ≡ Ok name
-          → name_at message (start + len) (start + 2) 0 0 ≡ Ok name
+      → name_at message (start + len) (start + 2) 0 0 ≡ Ok name
       → pairs_at message (start + n) name.next None ≡ Ok pairs
       → pairs_at message (start + len) name.next None ≡ Ok whole.pairs
       → pairs ++ rest ≡ whole.pairs → read message start n ≡ Ok (record whole { pairs = pairs })
@@ -158,16 +162,20 @@ module _ (message : List ℕ) (start len n : ℕ) (whole : Record) (shorter : n 
   cut_behind_name name enough name_is name_was pairs_were =
       elim (pairs_at-cut message (start + len) (start + n) (omega arith) name.next None whole.pairs
       pairs_were) [
-    | inl short ↦ inl (short_pairs name name_is short)
-    | inr found ↦ inr
-        (found.0, found.1, read_prefix name found.0 found.1 enough name_is name_was found.2
-        pairs_were found.3, found.3)
-  ]
+        | inl short ↦ inl (short_pairs name name_is short)
+        | inr found ↦ inr (
+          found.0,
+          found.1,
+          read_prefix name found.0 found.1 enough name_is name_was found.2
+              pairs_were found.3,
+          found.3,
+        )
+      ]
 
   cut_by_name : (name : NameRead) (cut_name : Result NameRead Fault) → 2 ≤ n
       → name_at message (start + n) (start + 2) 0 0 ≡ cut_name
       → (cut_name ≢ Err Short → cut_name ≡ Ok name)
-          → name_at message (start + len) (start + 2) 0 0 ≡ Ok name
+      → name_at message (start + len) (start + 2) 0 0 ≡ Ok name
       → pairs_at message (start + len) name.next None ≡ Ok whole.pairs → IsCut message start n whole
   cut_by_name name (Err Short) enough name_is same name_was pairs_were = inl (short_name name_is)
   cut_by_name name (Err Form) enough name_is same name_was pairs_were =

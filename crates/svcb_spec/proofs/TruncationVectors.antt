@@ -46,7 +46,7 @@ not_cut : read octets 0 14
 unfolding read name_at name_within name_step pairs_at pairs_within pairs_step
 not_cut =
     let is_map : IsMap ((3, 0x00 ∷ 0x35 ∷ []) ∷ (5, 0xaa ∷ []) ∷ []) =
-        (omega arith, omega arith, omega arith, (omega arith, omega arith, omega arith, tt)) in
+    (omega arith, omega arith, omega arith, (omega arith, omega arith, omega arith, tt)) in
     rw (wire-pairs _ is_map) refl
 
 -- ---- a key twice: a form error as soon as the second one is there

@@ -43,7 +43,7 @@ all_taken : (octets : List ℕ) (fault : Option Fault) (value read : Value) → 
 all_taken octets fault value read none is =
     let same : nat_lt (length octets) (length octets) ≡ false = grind (arith, nat_tests) in
     ap (λ f. whole_value octets (take_all f read octets)) none
-        ∙ ap (λ t. cond t (Err Form) (Ok read)) same ∙ ap Ok is
+    ∙ ap (λ t. cond t (Err Form) (Ok read)) same ∙ ap Ok is
 
 some_groups : (groups : List ℕ) → 0 < length groups → 0 < length (numbers16_wire groups)
 some_groups [] some = absurd (omega arith)
@@ -54,27 +54,27 @@ pub values_read_back : (value : Value) → IsValue value → is_own_type value �
     → whole_value (encode value) (take_value (key_of value) (encode value)) ≡ Ok value
 values_read_back (Mandatory keys) is own =
     all_taken _ _ _ _ (no_parts_fault 2 (numbers16_wire keys) is.1 (numbers_wire-whole keys))
-        (ap Mandatory (numbers-numbers_wire keys))
+    (ap Mandatory (numbers-numbers_wire keys))
 values_read_back (Alpn items) is own =
     all_taken _ _ _ _ (no_protocols_fault (protocols_wire items) is.1 (protocols_wire-whole items))
-        (ap Alpn (protocols-protocols_wire items))
+    (ap Alpn (protocols-protocols_wire items))
 values_read_back NoDefaultAlpn is own = refl
 values_read_back (Port port) is own = ap (λ n. Ok (Port n)) (octets_number-be2 port)
 values_read_back (Ipv4Hint addresses) is own =
     all_taken _ _ _ _
-        (no_parts_fault 4 (concat addresses) is.1 (concat-whole 4 addresses (omega arith) is.0))
-        (ap Ipv4Hint (parts-concat 4 addresses (omega arith) is.0))
+    (no_parts_fault 4 (concat addresses) is.1 (concat-whole 4 addresses (omega arith) is.0))
+    (ap Ipv4Hint (parts-concat 4 addresses (omega arith) is.0))
 values_read_back (Ech octets) is own = all_taken _ _ _ _ (no_long_fault octets is.1) refl
 values_read_back (Ipv6Hint addresses) is own =
     all_taken _ _ _ _
-        (no_parts_fault 16 (concat addresses) is.1 (concat-whole 16 addresses (omega arith) is.0))
-        (ap Ipv6Hint (parts-concat 16 addresses (omega arith) is.0))
+    (no_parts_fault 16 (concat addresses) is.1 (concat-whole 16 addresses (omega arith) is.0))
+    (ap Ipv6Hint (parts-concat 16 addresses (omega arith) is.0))
 values_read_back (DohPath octets) is own = all_taken _ _ _ _ (no_long_fault octets is.1) refl
 values_read_back Ohttp is own = refl
 values_read_back (TlsSupportedGroups groups) is own =
     all_taken _ _ _ _
-        (no_groups_fault (numbers16_wire groups) (some_groups groups is.0.0) is.1
-        (numbers_wire-whole groups)) (ap TlsSupportedGroups (numbers-numbers_wire groups))
+    (no_groups_fault (numbers16_wire groups) (some_groups groups is.0.0) is.1
+    (numbers_wire-whole groups)) (ap TlsSupportedGroups (numbers-numbers_wire groups))
 values_read_back (Unknown key octets) is own =
     let e0 : (key == 0) ≡ false = grind (arith, nat_tests) in
     let e1 : (key == 1) ≡ false = grind (arith, nat_tests) in
@@ -87,8 +87,8 @@ values_read_back (Unknown key octets) is own =
     let e8 : (key == 8) ≡ false = grind (arith, nat_tests) in
     let e9 : (key == 9) ≡ false = grind (arith, nat_tests) in
     rw (e0, e1, e2, e3, e4, e5, e6, e7, e8, e9)
-        (all_taken octets (long_fault octets) (Unknown key octets) (Unknown key octets)
-        (no_long_fault octets is.1) refl)
+    (all_taken octets (long_fault octets) (Unknown key octets) (Unknown key octets)
+    (no_long_fault octets is.1) refl)
 
 typed_is_own : (value : Value) → is_unknown value ≡ false → is_own_type value ≡ true
 typed_is_own (Mandatory keys) typed = refl
@@ -124,7 +124,7 @@ once : (a b : Value) (t : Bool) → is_unknown a ≡ t → is_unknown b ≡ t �
     → key_of a ≡ key_of b → encode a ≡ encode b → a ≡ b
 once a b true no_a no_b is_a is_b keys octets =
     unknown_is a no_a ∙ ap (λ k. Unknown k (encode a)) keys ∙ ap (Unknown (key_of b)) octets
-        ∙ sym (unknown_is b no_b)
+    ∙ sym (unknown_is b no_b)
 once a b false typed_a typed_b is_a is_b keys octets =
     same_ok a b (whole_value (encode a) (take_value (key_of a) (encode a)))
     (values_read_back a is_a (typed_is_own a typed_a))
@@ -192,7 +192,7 @@ module _ (key : ℕ) (octets : List ℕ) (small : key < 65536) (few : length oct
   whole None value is =
       let same : nat_lt (length octets) (length octets) ≡ false = grind (arith, nat_tests) in
       subst (λ t. IsIn key octets (or_unknown key octets (cond t (Err Form) (Ok value))))
-          (sym same) (is refl)
+      (sym same) (is refl)
   whole (Some fault) value is = any
 
   -- a value that takes so many octets
@@ -200,7 +200,7 @@ module _ (key : ℕ) (octets : List ℕ) (small : key < 65536) (few : length oct
       → IsInRead (Ok (record { value = value; len = n }))
   part n value is =
       pick (λ read. IsIn key octets (or_unknown key octets read)) (nat_lt n (length octets))
-          (Err Form) (Ok value) (λ more. any) (λ all. is (grind (arith, nat_tests)))
+      (Err Form) (Ok value) (λ more. any) (λ all. is (grind (arith, nat_tests)))
 
   nothing : length octets ≤ 0 → [] ≡ octets
   nothing none = none_left octets none
@@ -216,52 +216,52 @@ module _ (key : ℕ) (octets : List ℕ) (small : key < 65536) (few : length oct
       let two : length octets ≡ 2 = grind (arith, nat_tests) in
       let same : take 2 octets ≡ octets = ap (λ n. take n octets) (sym two) ∙ take-length octets in
       let below : octets_number (take 2 octets) < 65536 =
-          subst (λ os. octets_number os < 65536) (sym same) (octets_number-small octets are two) in
+      subst (λ os. octets_number os < 65536) (sym same) (octets_number-small octets are two) in
       is_in key octets (Port (octets_number (take 2 octets))) below few is
-          (ap (λ os. be2 (octets_number os)) same ∙ be2-octets_number octets are two)))
+      (ap (λ os. be2 (octets_number os)) same ∙ be2-octets_number octets are two)))
 
   -- the value that octets are under a key has the key and the octets
   pub values_in_octets : IsIn key octets (value_in key octets)
   values_in_octets =
       pick IsInRead (key == 0) _ _
-          (λ is. whole (parts_fault 2 octets) (Mandatory (numbers octets)) (λ none.
+      (λ is. whole (parts_fault 2 octets) (Mandatory (numbers octets)) (λ none.
       let known = no_fault_parts 2 octets none in
       is_in key octets (Mandatory (numbers octets)) (numbers-small octets are known.1) few
-          (is_equal key 0 is) (numbers_wire-numbers octets are known.1))) (λ _.
+      (is_equal key 0 is) (numbers_wire-numbers octets are known.1))) (λ _.
       pick IsInRead (key == 1) _ _
-          (λ is. whole (protocols_fault octets) (Alpn (protocols octets)) (λ none.
+      (λ is. whole (protocols_fault octets) (Alpn (protocols octets)) (λ none.
       let known = no_fault_protocols octets none in
       is_in key octets (Alpn (protocols octets)) (protocols-short octets are known.1) few
-          (is_equal key 1 is) (protocols_wire-protocols octets are known.1))) (λ _.
+      (is_equal key 1 is) (protocols_wire-protocols octets are known.1))) (λ _.
       pick IsInRead (key == 2) _ _
-          (λ is. part 0 NoDefaultAlpn
-          (λ all. is_in key octets NoDefaultAlpn tt few (is_equal key 2 is) (nothing all))) (λ _.
+      (λ is. part 0 NoDefaultAlpn
+      (λ all. is_in key octets NoDefaultAlpn tt few (is_equal key 2 is) (nothing all))) (λ _.
       pick IsInRead (key == 3) _ _ (λ is. port (is_equal key 3 is)) (λ _.
       pick IsInRead (key == 4) _ _
-          (λ is. whole (parts_fault 4 octets) (Ipv4Hint (parts 4 octets)) (λ none.
+      (λ is. whole (parts_fault 4 octets) (Ipv4Hint (parts 4 octets)) (λ none.
       let known = no_fault_parts 4 octets none in
       is_in key octets (Ipv4Hint (parts 4 octets)) (parts-each 4 octets (omega arith) known.1) few
-          (is_equal key 4 is) (concat-parts 4 octets (omega arith)))) (λ _.
+      (is_equal key 4 is) (concat-parts 4 octets (omega arith)))) (λ _.
       pick IsInRead (key == 5) _ _
-          (λ is. whole (long_fault octets) (Ech octets)
-          (λ none. is_in key octets (Ech octets) tt few (is_equal key 5 is) refl)) (λ _.
+      (λ is. whole (long_fault octets) (Ech octets)
+      (λ none. is_in key octets (Ech octets) tt few (is_equal key 5 is) refl)) (λ _.
       pick IsInRead (key == 6) _ _
-          (λ is. whole (parts_fault 16 octets) (Ipv6Hint (parts 16 octets)) (λ none.
+      (λ is. whole (parts_fault 16 octets) (Ipv6Hint (parts 16 octets)) (λ none.
       let known = no_fault_parts 16 octets none in
       is_in key octets (Ipv6Hint (parts 16 octets)) (parts-each 16 octets (omega arith) known.1)
-          few (is_equal key 6 is) (concat-parts 16 octets (omega arith)))) (λ _.
+      few (is_equal key 6 is) (concat-parts 16 octets (omega arith)))) (λ _.
       pick IsInRead (key == 7) _ _
-          (λ is. whole (long_fault octets) (DohPath octets)
-          (λ none. is_in key octets (DohPath octets) tt few (is_equal key 7 is) refl)) (λ _.
+      (λ is. whole (long_fault octets) (DohPath octets)
+      (λ none. is_in key octets (DohPath octets) tt few (is_equal key 7 is) refl)) (λ _.
       pick IsInRead (key == 8) _ _
-          (λ is. part 0 Ohttp
-          (λ all. is_in key octets Ohttp tt few (is_equal key 8 is) (nothing all))) (λ _.
+      (λ is. part 0 Ohttp
+      (λ all. is_in key octets Ohttp tt few (is_equal key 8 is) (nothing all))) (λ _.
       pick IsInRead (key == 9) _ _
-          (λ is. whole (groups_fault octets) (TlsSupportedGroups (numbers octets)) (λ none.
+      (λ is. whole (groups_fault octets) (TlsSupportedGroups (numbers octets)) (λ none.
       let known = no_fault_groups octets none in
       is_in key octets (TlsSupportedGroups (numbers octets))
-          (some_numbers octets known.0, numbers-small octets are known.2) few (is_equal key 9 is)
-          (numbers_wire-numbers octets are known.2))) (λ _.
+      (some_numbers octets known.0, numbers-small octets are known.2) few (is_equal key 9 is)
+      (numbers_wire-numbers octets are known.2))) (λ _.
       whole (long_fault octets) (Unknown key octets) (λ none. any)))))))))))
 
 -- ---- keys

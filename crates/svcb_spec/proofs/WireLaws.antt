@@ -41,7 +41,7 @@ unfolding wire_from
 wire_from-past zero key pair pairs below = refl
 wire_from-past (suc count) key pair pairs below =
     ap (λ value. pair_wire key value ++ wire_from count (key + 1) (pair ∷ pairs))
-        (is_not_first key pair pairs (λ same. omega arith))
+    (is_not_first key pair pairs (λ same. omega arith))
     ∙ ap (λ rest. pair_wire key (value_at pairs key) ++ rest)
     (wire_from-past count (key + 1) pair pairs (omega arith))
 
@@ -54,9 +54,9 @@ wire_from-pairs (suc count) key [] all up = wire_from-pairs count (key + 1) [] (
 wire_from-pairs (suc count) key (pair ∷ pairs) all up = elim (cases_eq key pair.0) [
   | inl same ↦
       let found : value_at (pair ∷ pairs) key ≡ Some pair.1 =
-          ap (value_at (pair ∷ pairs)) same ∙ is_first pair.0 pair.1 pairs in
+      ap (value_at (pair ∷ pairs)) same ∙ is_first pair.0 pair.1 pairs in
       let behind : Ascends (key + 1) pairs =
-          Ascends-lower (pair.0 + 1) (key + 1) pairs (omega arith) up.3 in
+      Ascends-lower (pair.0 + 1) (key + 1) pairs (omega arith) up.3 in
       ap (λ value. pair_wire key value ++ wire_from count (key + 1) (pair ∷ pairs)) found
       ∙ ap (λ rest. pair_wire key (Some pair.1) ++ rest)
       (wire_from-past count (key + 1) pair pairs (omega arith)
@@ -65,7 +65,7 @@ wire_from-pairs (suc count) key (pair ∷ pairs) all up = elim (cases_eq key pai
   | inr apart ↦
       let above : key + 1 ≤ pair.0 = omega (arith, up.0) in
       let absent : value_at (pair ∷ pairs) key ≡ None =
-          value_at-below (key + 1) key (pair ∷ pairs) (omega arith) (above, up.1, up.2, up.3) in
+      value_at-below (key + 1) key (pair ∷ pairs) (omega arith) (above, up.1, up.2, up.3) in
       ap (λ value. pair_wire key value ++ wire_from count (key + 1) (pair ∷ pairs)) absent
       ∙ wire_from-pairs count (key + 1) (pair ∷ pairs) (omega arith) (above, up.1, up.2, up.3)
 ]
@@ -89,9 +89,13 @@ Ascends-insert least key value (pair ∷ pairs) up from small few = elim (cases_
     | inl same ↦ rw (← nat_cmp_is key pair.0 Equal same) (up.0, up.1, few, up.3)
     | inr apart ↦
         let above : pair.0 < key = omega arith in
-        rw (← nat_cmp_is key pair.0 Greater above)
-            (up.0, up.1, up.2, Ascends-insert (pair.0 + 1) key value pairs up.3
-            (omega arith) small few)
+        rw (← nat_cmp_is key pair.0 Greater above) (
+          up.0,
+          up.1,
+          up.2,
+          Ascends-insert (pair.0 + 1) key value pairs up.3
+              (omega arith) small few,
+        )
   ]
 ]
 
@@ -108,13 +112,17 @@ length-pair_wire key value = grind arith
 -- a new key adds its pair's octets
 length-pairs_wire-insert : (key : ℕ) (value : List ℕ) (pairs : Pairs) → value_at pairs key ≡ None
     → length (pairs_wire (insert_entry nat_cmp pairs key value))
-        ≡ length (pairs_wire pairs) + 4 + length value
+    ≡ length (pairs_wire pairs) + 4 + length value
 length-pairs_wire-insert key value [] absent =
     omega (arith, length-pair_wire key value, length-append (pair_wire key (Some value)) [])
 length-pairs_wire-insert key value (pair ∷ pairs) absent = elim (cases_lt key pair.0) [
   | inl below ↦ rw (← nat_cmp_is key pair.0 Less below)
-      (omega (arith, length-pair_wire key value, length-append (pair_wire key (Some value))
-      (pairs_wire (pair ∷ pairs))))
+      (omega (
+        arith,
+        length-pair_wire key value,
+        length-append (pair_wire key (Some value))
+            (pairs_wire (pair ∷ pairs)),
+      ))
   | inr other ↦ elim (cases_eq key pair.0) [
     | inl same ↦ absurd
         (let found : value_at (pair ∷ pairs) key ≡ Some pair.1 = ap (value_at (pair ∷ pairs)) same
@@ -122,11 +130,16 @@ length-pairs_wire-insert key value (pair ∷ pairs) absent = elim (cases_lt key 
     | inr apart ↦
         let above : pair.0 < key = omega arith in
         let later = length-pairs_wire-insert key value pairs
-            (sym (is_not_first key pair pairs apart) ∙ absent) in
+        (sym (is_not_first key pair pairs apart) ∙ absent) in
         rw (← nat_cmp_is key pair.0 Greater above)
-            (omega (arith, later, length-append (pair_wire pair.0 (Some pair.1))
-            (pairs_wire pairs), length-append (pair_wire pair.0 (Some pair.1))
-            (pairs_wire (insert_entry nat_cmp pairs key value))))
+        (omega (
+          arith,
+          later,
+          length-append (pair_wire pair.0 (Some pair.1))
+              (pairs_wire pairs),
+          length-append (pair_wire pair.0 (Some pair.1))
+              (pairs_wire (insert_entry nat_cmp pairs key value)),
+        ))
   ]
 ]
 
@@ -134,8 +147,11 @@ pub length-wire-insert : (pairs : Pairs) (key : ℕ) (value : List ℕ) → IsMa
     → length value < 65536 → value_at pairs key ≡ None
     → length (wire (insert_entry nat_cmp pairs key value)) ≡ length (wire pairs) + 4 + length value
 length-wire-insert pairs key value is_map small few absent =
-    rw (wire-pairs (insert_entry nat_cmp pairs key value)
-        (IsMap-insert pairs key value is_map small few), wire-pairs pairs is_map)
+    rw (
+      wire-pairs (insert_entry nat_cmp pairs key value)
+          (IsMap-insert pairs key value is_map small few),
+      wire-pairs pairs is_map,
+    )
     (length-pairs_wire-insert key value pairs absent)
 
 -- ---- pairs in order
@@ -154,7 +170,7 @@ value_at-behind least [] pair back up = refl
 value_at-behind least (first ∷ front) pair back up =
     let above = key_behind (first.0 + 1) front pair back up.3 in
     is_not_first pair.0 first front (λ same. omega arith)
-        ∙ value_at-behind (first.0 + 1) front pair back up.3
+    ∙ value_at-behind (first.0 + 1) front pair back up.3
 
 -- the pair of a key behind the last one is appended
 pub insert_entry-behind : (least : ℕ) (front : Pairs) (pair : Pair) (back : Pairs)
@@ -163,11 +179,11 @@ pub insert_entry-behind : (least : ℕ) (front : Pairs) (pair : Pair) (back : Pa
 insert_entry-behind least [] pair back up = refl
 insert_entry-behind least (first ∷ front) pair back up =
     let above : first.0 < pair.0 =
-        (let le = key_behind (first.0 + 1) front pair back up.3 in omega arith) in
+    (let le = key_behind (first.0 + 1) front pair back up.3 in omega arith) in
     rw (← nat_cmp_is pair.0 first.0 Greater above)
-        (ap (λ rest. first ∷ rest) (insert_entry-behind (first.0 + 1) front pair back up.3))
+    (ap (λ rest. first ∷ rest) (insert_entry-behind (first.0 + 1) front pair back up.3))
 
--- a front of a map's pairs is a map
+-- a prefix of a map's pairs is a map
 pub Ascends-front : (least : ℕ) (front back : Pairs) → Ascends least (front ++ back)
     → Ascends least front
 Ascends-front least [] back up = tt
@@ -180,4 +196,4 @@ pub pairs_wire-append : (front back : Pairs)
 pairs_wire-append [] back = refl
 pairs_wire-append (first ∷ front) back =
     ap (λ rest. pair_wire first.0 (Some first.1) ++ rest) (pairs_wire-append front back)
-        ∙ sym (append_assoc (pair_wire first.0 (Some first.1)) (pairs_wire front) (pairs_wire back))
+    ∙ sym (append_assoc (pair_wire first.0 (Some first.1)) (pairs_wire front) (pairs_wire back))

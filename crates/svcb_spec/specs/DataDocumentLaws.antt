@@ -23,12 +23,12 @@ target_line = (refl, (refl, (refl, (refl, (refl, (refl, tt))))))
 abbrev leading_items : Record → List Item
 leading_items found =
     Token (decimal found.priority) ∷ Comment (codes "priority")
-        ∷ Token (printed_name_with_dot found.labels) ∷ Comment (codes "target") ∷ []
+    ∷ Token (printed_name_with_dot found.labels) ∷ Comment (codes "target") ∷ []
 
 pub document-svcb : (found : Record) → IsDocument (svcb_document found)
 document-svcb found =
     let first : IsDocument (leading_items found) =
-        record { closes = λ _. refl; comments = (priority_line, (target_line, tt)) } in
+    record { closes = λ _. refl; comments = (priority_line, (target_line, tt)) } in
     document-block (leading_items found ++ params_document found.pairs)
     (document-append (leading_items found) (params_document found.pairs) first
-        (document-params found.pairs))
+    (document-params found.pairs))

@@ -14,13 +14,13 @@ use Rattle.svcb_spec.specs.PrintedParams.{params_printed}
 abbrev pub svcb_printed : Record → List ℕ
 svcb_printed found =
     decimal found.priority ++ 32 ∷ printed_name_with_dot found.labels
-        ++ 32 ∷ params_printed found.pairs
+    ++ 32 ∷ params_printed found.pairs
 
 -- a record of at most 65,535 octets; a longer one is refused at the entry's end
 abbrev pub within_record_limit : Record → ℕ → Scanned Record
 within_record_limit found end =
     if nat_lt 65535 (length (rdata found.priority found.labels found.pairs))
-        then refused LongRecord end else done found end
+    then refused LongRecord end else done found end
 
 -- the data that the tokens left spell: a priority of 16 bits, a target, and parameters; at most
 -- 65,535 octets in all

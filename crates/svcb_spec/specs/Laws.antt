@@ -45,7 +45,7 @@ abbrev pub ValuesInOctets : Type 0
 ValuesInOctets = (key : ℕ) (octets : List ℕ) → key < 65536 → length octets < 65536
     → Each (λ octet. octet < 256) octets
     → IsValue (value_in key octets) × (key_of (value_in key octets) ≡ key)
-        × (encode (value_in key octets) ≡ octets)
+    × (encode (value_in key octets) ≡ octets)
 
 -- ---- records
 
@@ -53,7 +53,7 @@ ValuesInOctets = (key : ℕ) (octets : List ℕ) → key < 65536 → length octe
 abbrev pub RecordReadBack : Type 0
 RecordReadBack = (found : Record) → IsRecord found
     → read (rdata found.priority found.labels found.pairs) 0
-        (length (rdata found.priority found.labels found.pairs)) ≡ Ok found
+    (length (rdata found.priority found.labels found.pairs)) ≡ Ok found
 
 -- no octets are those of two records
 abbrev pub OneRecord : Type 0
@@ -74,7 +74,7 @@ RebuiltReadBack =
     (message : List ℕ) (start len : ℕ) (values : List Value) (limit : ℕ) (found : Record)
     (done : Rebuilt)
     → IsRebuilding message start len values limit found done
-        → read done.octets 0 (length done.octets) ≡ Ok (with_accepted found values limit)
+    → read done.octets 0 (length done.octets) ≡ Ok (with_accepted found values limit)
 
 -- Two results have equal octets exactly where priority, labels and maps are equal. So the order in
 -- which accepted values were pushed does not show.
@@ -83,7 +83,7 @@ CanonicalForm =
     (message : List ℕ) (start len : ℕ) (values : List Value) (limit : ℕ) (found : Record)
     (done : Rebuilt)
     → (message' : List ℕ) (start' len' : ℕ) (values' : List Value) (limit' : ℕ) (found' : Record)
-        (done' : Rebuilt)
+    (done' : Rebuilt)
     → IsRebuilding message start len values limit found done
     → IsRebuilding message' start' len' values' limit' found' done'
     → (done.octets ≡ done'.octets)
@@ -96,7 +96,7 @@ RebuiltAgain =
     (message : List ℕ) (start len : ℕ) (values : List Value) (limit : ℕ) (found : Record)
     (done : Rebuilt) (other : ℕ)
     → IsRebuilding message start len values limit found done
-        → length (wire (with_accepted found values limit).pairs) ≤ other
+    → length (wire (with_accepted found values limit).pairs) ≤ other
     → rebuild done.octets 0 (length done.octets) [] other
     ≡ Ok (record { octets = done.octets; replies = [] })
 

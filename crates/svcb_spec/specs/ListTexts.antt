@@ -68,8 +68,8 @@ read_item (c ∷ []) =
 read_item (c ∷ next ∷ text) =
     if c == 44 then Ok (record { item = []; rest = Some (next ∷ text) })
     else if c == 92
-        then (if is_escaped_in_item next then onto_item next (read_item text)
-        else Err BadListEscape)
+    then (if is_escaped_in_item next then onto_item next (read_item text)
+    else Err BadListEscape)
     else onto_item c (read_item (next ∷ text))
 
 -- an item has at least one octet

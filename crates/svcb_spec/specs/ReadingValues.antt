@@ -106,7 +106,7 @@ take_value key octets =
     else if key == 7 then take_all (long_fault octets) (DohPath octets) octets
     else if key == 8 then Ok (record { value = Ohttp; len = 0 })
     else if key == 9
-        then take_all (groups_fault octets) (TlsSupportedGroups (numbers octets)) octets
+    then take_all (groups_fault octets) (TlsSupportedGroups (numbers octets)) octets
     else take_all (long_fault octets) (Unknown key octets) octets
 
 -- what octets wholly are: octets left behind a value are a fault

@@ -33,5 +33,8 @@ read message start len =
       name ← name_at message end (start + 2) 0 0
       pairs ← pairs_at message end name.next None
       if nat_lt 65535 (2 + length (name_wire name.labels) + length (wire pairs)) then Err Form
-          else Ok (record { priority = number_at message start; labels = name.labels;
-              pairs = pairs })
+          else Ok (record {
+            priority = number_at message start;
+            labels = name.labels;
+            pairs = pairs;
+          })

@@ -9,7 +9,7 @@ use Rattle.svcb_spec.specs.Records.{Record, read}
 abbrev pub ReadsPrefix : List ℕ → ℕ → ℕ → Record → Type 0
 ReadsPrefix message start n whole =
     (pairs rest : Pairs) × (read message start n ≡ Ok (record whole { pairs = pairs }))
-        × (pairs ++ rest ≡ whole.pairs)
+    × (pairs ++ rest ≡ whole.pairs)
 
 -- Where `len` octets are read, fewer of them are short input, or are read with the same priority,
 -- the same labels and a prefix of the pairs. They are never a form error.
@@ -17,4 +17,4 @@ abbrev pub Truncation : Type 0
 Truncation = (message : List ℕ) (start len n : ℕ) (whole : Record) → n < len
     → read message start len ≡ Ok whole
     → ((read message start n ≡ Err Short) ⊎ ReadsPrefix message start n whole)
-        × (read message start n ≢ Err Form)
+    × (read message start n ≢ Err Form)

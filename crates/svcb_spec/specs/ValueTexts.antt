@@ -27,7 +27,7 @@ other_key key = if key == 0 then Err KeyZeroInMandatory else Ok key
 abbrev pub mandatory_item : List ℕ → List ℕ → Result ℕ ScanError
 mandatory_item before item =
     plain_item item >>= λ text. ok_or (spelled_key parameter_keys text) UnknownKey
-        >>= λ key. other_key key >>= new_item before
+    >>= λ key. other_key key >>= new_item before
 
 -- a number of a group
 abbrev pub group_item : List ℕ → List ℕ → Result ℕ ScanError
@@ -99,7 +99,7 @@ utf8_text text = if is_utf8 text then Ok text else Err BadUtf8
 abbrev pub mandatory_value : List ℕ → Result Value ScanError
 mandatory_value text =
     some_text text >>= λ list. read_items mandatory_item [] (comma_items list)
-        >>= λ keys. short_value (Mandatory (in_ascending_order keys))
+    >>= λ keys. short_value (Mandatory (in_ascending_order keys))
 
 abbrev pub alpn_value : List ℕ → Result Value ScanError
 alpn_value text = some_text text >>= protocols_of >>= λ protocols. short_value (Alpn protocols)
@@ -112,7 +112,7 @@ port_value text =
 abbrev pub ipv4hint_value : List ℕ → Result Value ScanError
 ipv4hint_value text =
     some_text text >>= λ list. read_items (address_item ipv4_of) [] (comma_items list)
-        >>= λ addresses. short_value (Ipv4Hint addresses)
+    >>= λ addresses. short_value (Ipv4Hint addresses)
 
 abbrev pub ech_value : List ℕ → Result Value ScanError
 ech_value text =
@@ -122,7 +122,7 @@ ech_value text =
 abbrev pub ipv6hint_value : List ℕ → Result Value ScanError
 ipv6hint_value text =
     some_text text >>= λ list. read_items (address_item ipv6_of) [] (comma_items list)
-        >>= λ addresses. short_value (Ipv6Hint addresses)
+    >>= λ addresses. short_value (Ipv6Hint addresses)
 
 abbrev pub dohpath_value : List ℕ → Result Value ScanError
 dohpath_value text = utf8_text text >>= λ template. short_value (DohPath template)
@@ -130,7 +130,7 @@ dohpath_value text = utf8_text text >>= λ template. short_value (DohPath templa
 abbrev pub groups_value : List ℕ → Result Value ScanError
 groups_value text =
     some_text text >>= λ list. read_items group_item [] (comma_items list)
-        >>= λ groups. short_value (TlsSupportedGroups groups)
+    >>= λ groups. short_value (TlsSupportedGroups groups)
 
 -- a value without a type
 abbrev pub opaque_value : ℕ → List ℕ → Result Value ScanError

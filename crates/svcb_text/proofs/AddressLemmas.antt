@@ -26,9 +26,9 @@ eight_segments text segments (inr some) =
     let room = some.room in
     let front : length (some.head ++ replicate zeros 0) ≡ length some.head + zeros =
     length-append some.head (replicate zeros 0)
-        ∙ ap (λ n. length some.head + n) (length-replicate {A = ℕ} zeros 0) in
+    ∙ ap (λ n. length some.head + n) (length-replicate {A = ℕ} zeros 0) in
     let all : length segments ≡ length (some.head ++ replicate zeros 0) + length some.tail =
-        ap length some.value ∙ length-append (some.head ++ replicate zeros 0) some.tail in
+    ap length some.value ∙ length-append (some.head ++ replicate zeros 0) some.tail in
     omega arith
 
 length-octets_of : (segments : List ℕ)
@@ -58,26 +58,26 @@ module _ (read : List ℕ → Option (List ℕ)) (n : ℕ)
       in subst (Each (λ a. length a ≡ n)) same each
   each_read before (item ∷ items) all each e =
       elim (plain_item item) as
-          (λ p. ((p >>= λ text. ok_or (read text) BadAddress)
-          >>= λ x. read_items (address_item read) (before ++ x ∷ []) items) ≡ Ok all
-          → Each (λ a. length a ≡ n) all) [
+      (λ p. ((p >>= λ text. ok_or (read text) BadAddress)
+      >>= λ x. read_items (address_item read) (before ++ x ∷ []) items) ≡ Ok all
+      → Each (λ a. length a ≡ n) all) [
         | Err fault ↦ λ e. absurd cc
         | Ok text ↦ λ e. elim (read text) as
             (λ o. read text ≡ o
             → (ok_or o BadAddress >>= λ x. read_items (address_item read) (before ++ x ∷ []) items)
             ≡ Ok all → Each (λ a. length a ≡ n) all) [
-          | None ↦ λ is e. absurd cc
-          | Some x ↦ λ is e. each_read (before ++ x ∷ []) items all
-              (each_last n before x each (reads text x is)) e
-        ] refl e
+              | None ↦ λ is e. absurd cc
+              | Some x ↦ λ is e. each_read (before ++ x ∷ []) items all
+                  (each_last n before x each (reads text x is)) e
+            ] refl e
       ] e
 
   pub each_listed : (text : List ℕ) (all : List (List ℕ))
       → read_list (add_last (read_address read)) [] text ≡ Ok all → Each (λ a. length a ≡ n) all
   each_listed text all e =
       elim (some_text text) as
-          (λ s. (s >>= λ list. add_items (add_last (read_address read)) [] (comma_items list))
-          ≡ Ok all → Each (λ a. length a ≡ n) all) [
+      (λ s. (s >>= λ list. add_items (add_last (read_address read)) [] (comma_items list))
+      ≡ Ok all → Each (λ a. length a ≡ n) all) [
         | Err fault ↦ λ e. absurd cc
         | Ok list ↦ λ e. each_read [] (comma_items list) all tt
             (sym (add_items-last (read_address read) [] (comma_items list)) ∙ e)

@@ -28,7 +28,7 @@ module _ {T U V W : Type 0} (view : T → V) (seen : U → W) where
 pub refused_first : {U V W : Type 0} (seen : U → W) (fault : ScanError)
     (whole : Result W ScanError) (read : Result V ScanError) (next : V → Result W ScanError)
     → whole ≡ (read >>= next) → Answers {T = V} (λ x. x) (Err fault) read
-        → Answers seen (Err fault) whole
+    → Answers seen (Err fault) whole
 refused_first {V = V} seen fault whole read next is refused =
     rw is (refused_then {T = V} (λ x. x) seen fault read next refused)
 

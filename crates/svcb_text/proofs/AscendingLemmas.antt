@@ -51,8 +51,8 @@ pub has-insert_ascending : (k : ℕ) (numbers : List ℕ) (n : ℕ)
 has-insert_ascending k [] n = refl
 has-insert_ascending k (m ∷ numbers) n =
     elim (nat_le k m) as
-        (λ b. has (cond b (k ∷ m ∷ numbers) (m ∷ insert_ascending k numbers)) n
-        ≡ ((k == n) || ((m == n) || has numbers n))) [
+    (λ b. has (cond b (k ∷ m ∷ numbers) (m ∷ insert_ascending k numbers)) n
+    ≡ ((k == n) || ((m == n) || has numbers n))) [
       | true ↦ refl
       | false ↦ ap (λ b. (m == n) || b) (has-insert_ascending k numbers n)
           ∙ or_swap (m == n) (k == n) (has numbers n)
@@ -132,5 +132,5 @@ pub has-both : (keys numbers : List ℕ) (k : ℕ) → ((n : ℕ) → has keys n
     → (n : ℕ) → has (insert_key nat_cmp keys k) n ≡ has (numbers ++ k ∷ []) n
 has-both keys numbers k same new n =
     ap (λ (ks : List ℕ). has ks n) (insert_key-new keys k new) ∙ has-insert_ascending k keys n
-        ∙ ap (λ b. (k == n) || b) (same n)
+    ∙ ap (λ b. (k == n) || b) (same n)
     ∙ sym (list_any-append (λ m. m == n) numbers (k ∷ []) ∙ or_last (k == n) (has numbers n))

@@ -76,24 +76,24 @@ nothing [] none = refl
 nothing (c ∷ left) none = absurd (omega arith)
 
 module _ (text left item : List ℕ) (so_far : read_item text ≡ onto_octets item (read_item left))
-    where
-  pub item_ends : length left ≡ 0 → read_item text ≡ Ok (record { item = item; rest = None })
-  item_ends none = so_far ∙ ap (onto_octets item) (nothing left none) ∙ onto_octets-end item None
+  where
+    pub item_ends : length left ≡ 0 → read_item text ≡ Ok (record { item = item; rest = None })
+    item_ends none = so_far ∙ ap (onto_octets item) (nothing left none) ∙ onto_octets-end item None
 
-  module _ (c : ℕ) (others : List ℕ) (front : left ≡ c ∷ others) where
-    pub item_ended : c ≡ 44 → read_item text ≡ Ok (record { item = item; rest = Some others })
-    item_ended is =
-        so_far ∙ ap (onto_octets item) (ap read_item front ∙ read_item-comma c others is)
-        ∙ onto_octets-end item (Some others)
+    module _ (c : ℕ) (others : List ℕ) (front : left ≡ c ∷ others) where
+      pub item_ended : c ≡ 44 → read_item text ≡ Ok (record { item = item; rest = Some others })
+      item_ended is =
+          so_far ∙ ap (onto_octets item) (ap read_item front ∙ read_item-comma c others is)
+          ∙ onto_octets-end item (Some others)
 
-    pub item_longer : (octet : ℕ) (behind : List ℕ)
-        → read_item (c ∷ others) ≡ onto_item octet (read_item behind)
-        → read_item text ≡ onto_octets (item ++ octet ∷ []) (read_item behind)
-    item_longer octet behind reads =
-        so_far ∙ ap (onto_octets item) (ap read_item front ∙ reads)
-            ∙ sym (onto_octets-push item octet (read_item behind))
+      pub item_longer : (octet : ℕ) (behind : List ℕ)
+          → read_item (c ∷ others) ≡ onto_item octet (read_item behind)
+          → read_item text ≡ onto_octets (item ++ octet ∷ []) (read_item behind)
+      item_longer octet behind reads =
+          so_far ∙ ap (onto_octets item) (ap read_item front ∙ reads)
+          ∙ sym (onto_octets-push item octet (read_item behind))
 
-    pub item_refused : (fault : ScanError) → read_item (c ∷ others) ≡ Err fault
-        → read_item text ≡ Err fault
-    item_refused fault refused = so_far ∙ ap (onto_octets item) (ap read_item front ∙ refused)
-        ∙ onto_octets-fault item fault
+      pub item_refused : (fault : ScanError) → read_item (c ∷ others) ≡ Err fault
+          → read_item text ≡ Err fault
+      item_refused fault refused = so_far ∙ ap (onto_octets item) (ap read_item front ∙ refused)
+          ∙ onto_octets-fault item fault

@@ -25,15 +25,23 @@ key_len-at : (i : ℕ) (token : List ℕ) → ((k : ℕ) → k < i → get_or to
 key_len-at i [] before within here = absurd (omega arith)
 key_len-at zero (c ∷ token) before within here = key_len-sign c token here
 key_len-at (suc i) (c ∷ token) before within here =
-    omega (arith, key_len-other c token (before 0 (omega arith)), key_len-at i token
-        (λ k h. before (suc k) (omega arith)) (omega arith) here)
+    omega (
+      arith,
+      key_len-other c token (before 0 (omega arith)),
+      key_len-at i token
+          (λ k h. before (suc k) (omega arith)) (omega arith) here,
+    )
 
 key_len-all : (token : List ℕ) → ((k : ℕ) → k < length token → get_or token k 0 ≡ 61 → ⊥)
     → key_len token ≡ length token
 key_len-all [] none = refl
 key_len-all (c ∷ token) none =
-    omega (arith, key_len-other c token (none 0 (omega arith)), key_len-all token
-        (λ k h. none (suc k) (omega arith)))
+    omega (
+      arith,
+      key_len-other c token (none 0 (omega arith)),
+      key_len-all token
+          (λ k h. none (suc k) (omega arith)),
+    )
 
 -- with an `=`
 module _ (i : ℕ) (token : List ℕ) (before : (k : ℕ) → k < i → get_or token k 0 ≡ 61 → ⊥)

@@ -21,8 +21,8 @@ module _ {A : Type 0} (read : List A → List ℕ → Result A ScanError) where
   add_items-last before [] = refl
   add_items-last before (item ∷ items) =
       elim (plain_item item) as
-          (λ p. (p >>= λ text. add_last read before text
-          >>= λ more. add_items (add_last read) more items)
+      (λ p. (p >>= λ text. add_last read before text
+      >>= λ more. add_items (add_last read) more items)
       ≡ ((p >>= read before) >>= λ x. read_items plainly (before ++ x ∷ []) items)) [
         | Err fault ↦ refl
         | Ok text ↦ elim (read before text) as
@@ -42,18 +42,21 @@ length-read_items rule before [] all is = let same : before ≡ all = cc
     in omega (arith, ap (λ (l : List _). length l) same)
 length-read_items rule before (item ∷ items) all is =
     elim (rule before item) as (λ r. (r >>= λ x. read_items rule (before ++ x ∷ []) items) ≡ Ok all
-        → length all ≡ length before + suc (length items)) [
+    → length all ≡ length before + suc (length items)) [
       | Err fault ↦ λ e. absurd cc
-      | Ok x ↦ λ e. omega
-          (arith, length-read_items rule (before ++ x ∷ []) items all e, length-append before
-          (x ∷ []))
+      | Ok x ↦ λ e. omega (
+        arith,
+        length-read_items rule (before ++ x ∷ []) items all e,
+        length-append before
+            (x ∷ []),
+      )
     ] is
 
 -- a key is new among ascending keys where it is new among the keys as they were read
 key_added : (before : List ℕ) (items : List (List ℕ)) (k : ℕ)
     → (add_items add_key (in_ascending_order (before ++ k ∷ [])) items
-        ≡ (read_items mandatory_item (before ++ k ∷ []) items
-        >>= λ keys. Ok (in_ascending_order keys)))
+    ≡ (read_items mandatory_item (before ++ k ∷ []) items
+    >>= λ keys. Ok (in_ascending_order keys)))
     → ((new_item (in_ascending_order before) k
     >>= λ key. Ok (insert_ascending key (in_ascending_order before)))
     >>= λ more. add_items add_key more items)
@@ -62,9 +65,9 @@ key_added : (before : List ℕ) (items : List (List ℕ)) (k : ℕ)
 key_added before items k later =
     rw (has-ascending before k) (
     elim (has before k) as
-        (λ b. ((cond b (Err DuplicateItem) (Ok k)
-        >>= λ key. Ok (insert_ascending key (in_ascending_order before)))
-        >>= λ more. add_items add_key more items)
+    (λ b. ((cond b (Err DuplicateItem) (Ok k)
+    >>= λ key. Ok (insert_ascending key (in_ascending_order before)))
+    >>= λ more. add_items add_key more items)
     ≡ ((cond b (Err DuplicateItem) (Ok k)
     >>= λ x. read_items mandatory_item (before ++ x ∷ []) items)
     >>= λ keys. Ok (in_ascending_order keys))) [
@@ -76,29 +79,29 @@ key_added before items k later =
 -- keys are read in any order, and ascend
 pub add_items-keys : (before : List ℕ) (items : List (List ℕ))
     → add_items add_key (in_ascending_order before) items
-        ≡ (read_items mandatory_item before items >>= λ keys. Ok (in_ascending_order keys))
+    ≡ (read_items mandatory_item before items >>= λ keys. Ok (in_ascending_order keys))
 add_items-keys before [] = refl
 add_items-keys before (item ∷ items) =
     elim (plain_item item) as
-        (λ p. (p >>= λ text. add_key (in_ascending_order before) text
-        >>= λ more. add_items add_key more items)
+    (λ p. (p >>= λ text. add_key (in_ascending_order before) text
+    >>= λ more. add_items add_key more items)
     ≡ (((p >>= λ text. ok_or (spelled_key parameter_keys text) UnknownKey >>= λ key. other_key key
     >>= new_item before)
     >>= λ x. read_items mandatory_item (before ++ x ∷ []) items)
-        >>= λ keys. Ok (in_ascending_order keys))) [
+    >>= λ keys. Ok (in_ascending_order keys))) [
       | Err fault ↦ refl
       | Ok text ↦ elim (ok_or (spelled_key parameter_keys text) UnknownKey) as (λ r.
           (((r >>= λ key. other_key key >>= new_item (in_ascending_order before))
-              >>= λ key. Ok (insert_ascending key (in_ascending_order before)))
-              >>= λ more. add_items add_key more items)
+          >>= λ key. Ok (insert_ascending key (in_ascending_order before)))
+          >>= λ more. add_items add_key more items)
           ≡ (((r >>= λ key. other_key key >>= new_item before)
           >>= λ x. read_items mandatory_item (before ++ x ∷ []) items)
           >>= λ keys. Ok (in_ascending_order keys))) [
             | Err fault ↦ refl
             | Ok key ↦ elim (other_key key) as (λ r.
                 (((r >>= new_item (in_ascending_order before))
-                    >>= λ k. Ok (insert_ascending k (in_ascending_order before)))
-                    >>= λ more. add_items add_key more items)
+                >>= λ k. Ok (insert_ascending k (in_ascending_order before)))
+                >>= λ more. add_items add_key more items)
                 ≡ (((r >>= new_item before)
                 >>= λ x. read_items mandatory_item (before ++ x ∷ []) items)
                 >>= λ keys. Ok (in_ascending_order keys))) [

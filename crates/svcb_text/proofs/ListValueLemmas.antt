@@ -13,13 +13,13 @@ use Rattle.svcb_text.proofs.ListLemmas.{add_items-last, add_items-keys, length-r
 module _ {A : Type 0} (read : List A → List ℕ → Result A ScanError) (value : List A → Value) where
   pub value_listed : (text : List ℕ)
       → (some_text text
-          >>= λ list. read_items (λ before item. plain_item item >>= read before) []
-          (comma_items list) >>= λ items. short_value (value items))
+      >>= λ list. read_items (λ before item. plain_item item >>= read before) []
+      (comma_items list) >>= λ items. short_value (value items))
       ≡ (read_list (add_last read) [] text >>= λ items. short_value (value items))
   value_listed text =
       elim (some_text text) as
-          (λ s. (s >>= λ list. read_items (λ before item. plain_item item >>= read before) []
-          (comma_items list) >>= λ items. short_value (value items))
+      (λ s. (s >>= λ list. read_items (λ before item. plain_item item >>= read before) []
+      (comma_items list) >>= λ items. short_value (value items))
       ≡ ((s >>= λ list. add_items (add_last read) [] (comma_items list))
       >>= λ items. short_value (value items))) [
         | Err fault ↦ refl
@@ -57,8 +57,8 @@ pub mandatory_value-list : (text : List ℕ)
     → mandatory_value text ≡ (read_list add_key [] text >>= λ keys. short_value (Mandatory keys))
 mandatory_value-list text =
     elim (some_text text) as
-        (λ s. (s >>= λ list. read_items mandatory_item [] (comma_items list)
-        >>= λ keys. short_value (Mandatory (in_ascending_order keys)))
+    (λ s. (s >>= λ list. read_items mandatory_item [] (comma_items list)
+    >>= λ keys. short_value (Mandatory (in_ascending_order keys)))
     ≡ ((s >>= λ list. add_items add_key [] (comma_items list))
     >>= λ keys. short_value (Mandatory keys))) [
       | Err fault ↦ refl
@@ -77,7 +77,7 @@ some_pieces : (text : List ℕ) → 0 < length (comma_pieces text)
 some_pieces [] = omega arith
 some_pieces (c ∷ text) =
     elim (c == 44) as
-        (λ b. 0 < length (cond b ([] ∷ comma_pieces text) (onto_piece c (comma_pieces text)))) [
+    (λ b. 0 < length (cond b ([] ∷ comma_pieces text) (onto_piece c (comma_pieces text)))) [
       | true ↦ omega arith
       | false ↦ more_pieces c (comma_pieces text)
     ]

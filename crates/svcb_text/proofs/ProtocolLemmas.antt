@@ -36,38 +36,37 @@ read_item-shorter : (text : List ℕ) → IsShorter (read_item text) (length tex
 read_item-shorter [] = omega arith
 read_item-shorter (c ∷ []) =
     elim (c == 44) as
-        (λ b. IsShorter
-        (cond b (Ok (record { item = []; rest = Some [] }))
-        (cond (c == 92) (Err BadListEscape) (Ok (record { item = c ∷ []; rest = None })))) 1) [
+    (λ b. IsShorter
+    (cond b (Ok (record { item = []; rest = Some [] }))
+    (cond (c == 92) (Err BadListEscape) (Ok (record { item = c ∷ []; rest = None })))) 1) [
       | true ↦ omega arith
       | false ↦ elim (c == 92) as
           (λ b. IsShorter (cond b (Err BadListEscape) (Ok (record { item = c ∷ []; rest = None })))
           1) [
-        | true ↦ tt
-        | false ↦ omega arith
-      ]
+            | true ↦ tt
+            | false ↦ omega arith
+          ]
     ]
 read_item-shorter (c ∷ next ∷ text) =
     elim (c == 44) as (λ b. IsShorter (cond b (Ok (record { item = []; rest = Some (next ∷ text) }))
     (cond (c == 92)
-        (cond (is_escaped_in_item next) (onto_item next (read_item text)) (Err BadListEscape))
-        (onto_item c (read_item (next ∷ text))))) (length (c ∷ next ∷ text))) [
+    (cond (is_escaped_in_item next) (onto_item next (read_item text)) (Err BadListEscape))
+    (onto_item c (read_item (next ∷ text))))) (length (c ∷ next ∷ text))) [
       | true ↦ omega arith
       | false ↦ elim (c == 92) as
           (λ b. IsShorter
           (cond b (cond (is_escaped_in_item next) (onto_item next (read_item text))
-          (Err BadListEscape)) (onto_item c (read_item (next ∷ text)))) (length (c ∷ next ∷ text)))
-          [
-        | true ↦ elim (is_escaped_in_item next) as
-            (λ b. IsShorter (cond b (onto_item next (read_item text)) (Err BadListEscape))
-            (length (c ∷ next ∷ text))) [
-          | true ↦ onto_item-shorter next (read_item text) (length text) (length (c ∷ next ∷ text))
-              (omega arith) (read_item-shorter text)
-          | false ↦ tt
-        ]
-        | false ↦ onto_item-shorter c (read_item (next ∷ text)) (length (next ∷ text))
-            (length (c ∷ next ∷ text)) (omega arith) (read_item-shorter (next ∷ text))
-      ]
+          (Err BadListEscape)) (onto_item c (read_item (next ∷ text)))) (length (c ∷ next ∷ text))) [
+            | true ↦ elim (is_escaped_in_item next) as
+                (λ b. IsShorter (cond b (onto_item next (read_item text)) (Err BadListEscape))
+                (length (c ∷ next ∷ text))) [
+                  | true ↦ onto_item-shorter next (read_item text) (length text) (length (c ∷ next ∷ text))
+                      (omega arith) (read_item-shorter text)
+                  | false ↦ tt
+                ]
+            | false ↦ onto_item-shorter c (read_item (next ∷ text)) (length (next ∷ text))
+                (length (c ∷ next ∷ text)) (omega arith) (read_item-shorter (next ∷ text))
+          ]
     ]
 
 -- an item that has octets is the item
@@ -76,19 +75,19 @@ some_octets-shorter : (read : Result ItemRead ScanError) (n : ℕ) → IsShorter
 some_octets-shorter (Err fault) n is = tt
 some_octets-shorter (Ok read) n is =
     elim (length read.item == 0) as (λ b. IsShorter (cond b (Err EmptyItem) (Ok read)) n)
-        [ true ↦ tt | false ↦ is ]
+    [ true ↦ tt | false ↦ is ]
 
 short_item-shorter : (read : Result ItemRead ScanError) (n : ℕ) → IsShorter read n
     → IsShorter (read >>= short_item) n
 short_item-shorter (Err fault) n is = tt
 short_item-shorter (Ok read) n is =
     elim (nat_lt 255 (length read.item)) as (λ b. IsShorter (cond b (Err LongItem) (Ok read)) n)
-        [ true ↦ tt | false ↦ is ]
+    [ true ↦ tt | false ↦ is ]
 
 protocol_item-shorter : (text : List ℕ) → IsShorter (protocol_item text) (length text)
 protocol_item-shorter text =
     short_item-shorter (read_item text >>= some_octets) (length text)
-        (some_octets-shorter (read_item text) (length text) (read_item-shorter text))
+    (some_octets-shorter (read_item text) (length text) (read_item-shorter text))
 
 -- ---- enough protocols
 
@@ -120,7 +119,7 @@ within_enough zero m text ln lm = absurd (omega arith)
 within_enough (suc n) zero text ln lm = absurd (omega arith)
 within_enough (suc n) (suc m) text ln lm =
     same_step (protocols_within n) (protocols_within m) (length text)
-        (λ rest less. within_enough n m rest (omega arith) (omega arith))
+    (λ rest less. within_enough n m rest (omega arith) (omega arith))
     (protocol_item text) (protocol_item-shorter text)
 
 protocols_of-step : (text : List ℕ)
@@ -128,7 +127,7 @@ protocols_of-step : (text : List ℕ)
 unfolding protocols_within
 protocols_of-step text =
     same_step (protocols_within (length text)) protocols_of (length text)
-        (λ rest less. within_enough (length text) (suc (length rest)) rest less (omega arith))
+    (λ rest less. within_enough (length text) (suc (length rest)) rest less (omega arith))
     (protocol_item text) (protocol_item-shorter text)
 
 -- ---- protocols in turn
@@ -151,7 +150,7 @@ behind_protocols before read = read >>= λ items. Ok (before ++ items)
 pub behind_protocols-push : (before : List (List ℕ)) (item : List ℕ)
     (read : Result (List (List ℕ)) ScanError)
     → behind_protocols before (onto_protocols item read)
-        ≡ behind_protocols (before ++ item ∷ []) read
+    ≡ behind_protocols (before ++ item ∷ []) read
 behind_protocols-push before item (Err fault) = refl
 behind_protocols-push before item (Ok items) =
     ap (λ (all : List (List ℕ)). Ok all) (sym (append_assoc before (item ∷ []) items))
@@ -181,8 +180,8 @@ pub record IsTaken (left : Option (List ℕ)) (item : List ℕ) : Type 0 where
 some_octets-some : (read found : ItemRead) → some_octets read ≡ Ok found → 0 < length found.item
 some_octets-some read found =
     elim (length read.item == 0) as
-        (λ b. (length read.item == 0) ≡ b → cond b (Err EmptyItem) (Ok read) ≡ Ok found
-        → 0 < length found.item) [
+    (λ b. (length read.item == 0) ≡ b → cond b (Err EmptyItem) (Ok read) ≡ Ok found
+    → 0 < length found.item) [
       | true ↦ λ e is. absurd cc
       | false ↦ λ e is. let same : read ≡ found =
           cc in subst (λ (r : ItemRead). 0 < length r.item) same (grind (arith, nat_tests))
@@ -200,24 +199,24 @@ taken_by text item (Err fault) is taken = absurd cc
 taken_by text item (Ok found) is taken =
     let same : found.item ≡ item = cc in
     let behind : text_behind (next_read (Some text)) ≡ found.rest =
-        ap (λ (r : Result ItemRead ScanError). text_behind (some_value r)) is in
+    ap (λ (r : Result ItemRead ScanError). text_behind (some_value r)) is in
     let whole : protocols_of text ≡ step_of (Ok found) = protocols_of-step text ∙ ap step_of is in
     let less : left_len found.rest ≤ length text =
-        subst (λ (r : Result ItemRead ScanError). IsShorter r (length text)) is
-        (some_octets-shorter (read_item text) (length text) (read_item-shorter text)) in
+    subst (λ (r : Result ItemRead ScanError). IsShorter r (length text)) is
+    (some_octets-shorter (read_item text) (length text) (read_item-shorter text)) in
     record {
       not_empty = subst (λ (i : List ℕ). 0 < length i) same (read_some (read_item text) found is);
       shorter = omega (arith, ap left_len behind);
       long = λ long.
           let exceeds : nat_lt 255 (length found.item) ≡ true =
-              grind (arith, nat_tests, ap (λ (i : List ℕ). length i) same) in
+          grind (arith, nat_tests, ap (λ (i : List ℕ). length i) same) in
           whole ∙ ap (λ b. cond b (Err LongItem) (Ok found) >>= protocols_step protocols_of)
-              exceeds;
+          exceeds;
       first = λ short.
           let fits : nat_lt 255 (length found.item) ≡ false =
-              grind (arith, nat_tests, ap (λ (i : List ℕ). length i) same) in
+          grind (arith, nat_tests, ap (λ (i : List ℕ). length i) same) in
           whole ∙ ap (λ b. cond b (Err LongItem) (Ok found) >>= protocols_step protocols_of) fits
-              ∙ protocols_step-left found
+          ∙ protocols_step-left found
           ∙ ap (λ (i : List ℕ). onto_protocols i (protocols_left found.rest)) same
           ∙ ap (λ (rest : Option (List ℕ)). onto_protocols item (protocols_left rest)) (sym behind);
     }
@@ -252,11 +251,11 @@ refused_item None fault refused =
 refused_item (Some text) fault refused =
     let read = read_item text >>= some_octets in
     let once : Answers {T = Option ItemRead} (λ x. x) (Err fault) (some_value read) =
-        refused_before fault (some_value read) (option_map (λ (i : ItemRead). i.item)) refused in
+    refused_before fault (some_value read) (option_map (λ (i : ItemRead). i.item)) refused in
     refused_first {U = List (List ℕ)} {V = ItemRead} (λ x. x) fault (protocols_of text) read
-        (λ found. short_item found >>= protocols_step protocols_of)
+    (λ found. short_item found >>= protocols_step protocols_of)
     (protocols_of-step text ∙ in_steps read)
-        (refused_before fault read (λ (i : ItemRead). Some i) once)
+    (refused_before fault read (λ (i : ItemRead). Some i) once)
 
 -- ---- what was read of a text
 
@@ -275,7 +274,7 @@ module _ (text : List ℕ) (left : Option (List ℕ)) (before : List (List ℕ))
   pub protocols_more : (item : List ℕ) → item_read (next_read left) ≡ Ok (Some item)
       → length item ≤ 255
       → protocols_of text
-          ≡ behind_protocols (before ++ item ∷ []) (protocols_left (text_behind (next_read left)))
+      ≡ behind_protocols (before ++ item ∷ []) (protocols_left (text_behind (next_read left)))
   protocols_more item is short =
       so_far ∙ ap (behind_protocols before) ((taken left item is).first short)
       ∙ behind_protocols-push before item (protocols_left (text_behind (next_read left)))
@@ -285,8 +284,8 @@ module _ (text : List ℕ) (left : Option (List ℕ)) (before : List (List ℕ))
       → Answers {T = List (List ℕ)} (λ x. x) (Err fault) (protocols_of text)
   protocols_refused fault refused =
       refused_first {U = List (List ℕ)} {V = List (List ℕ)} (λ x. x) fault (protocols_of text)
-          (protocols_left left) (λ items. Ok (before ++ items)) so_far
-          (refused_item left fault refused)
+      (protocols_left left) (λ items. Ok (before ++ items)) so_far
+      (refused_item left fault refused)
 
 -- each protocol is one
 pub each_protocol : (before : List (List ℕ)) (item : List ℕ)
@@ -304,16 +303,26 @@ pub protocols_wire-push : (before : List (List ℕ)) (item : List ℕ)
     ≡ length (protocols_wire before) + 1 + length item
 protocols_wire-push [] item = omega (arith, ap (λ (o : List ℕ). length o) (append-nil item))
 protocols_wire-push (first ∷ before) item =
-    omega (arith, length-append first (protocols_wire (before ++ item ∷ [])), length-append first
-        (protocols_wire before), protocols_wire-push before item)
+    omega (
+      arith,
+      length-append first (protocols_wire (before ++ item ∷ [])),
+      length-append first
+          (protocols_wire before),
+      protocols_wire-push before item,
+    )
 
 pub protocols_wire-front : (n : ℕ) (protocols : List (List ℕ))
     → length (protocols_wire (take n protocols)) ≤ length (protocols_wire protocols)
 protocols_wire-front zero protocols = omega arith
 protocols_wire-front (suc n) [] = omega arith
 protocols_wire-front (suc n) (first ∷ protocols) =
-    omega (arith, length-append first (protocols_wire (take n protocols)), length-append first
-        (protocols_wire protocols), protocols_wire-front n protocols)
+    omega (
+      arith,
+      length-append first (protocols_wire (take n protocols)),
+      length-append first
+          (protocols_wire protocols),
+      protocols_wire-front n protocols,
+    )
 
 pub protocol_at : (i : ℕ) (protocols : List (List ℕ)) (d : List ℕ)
     → Each (λ protocol. IsProtocolLength (length protocol)) protocols → i < length protocols
@@ -327,19 +336,24 @@ protocol_at (suc i) (first ∷ protocols) d each within =
 pub protocols_exceed : (i : ℕ) (protocols : List (List ℕ)) (item : List ℕ) → i < length protocols
     → item ≡ get_or protocols i item
     → 65535 < length (protocols_wire (take i protocols)) + 1 + length item
-        → 65535 < length (protocols_wire protocols)
+    → 65535 < length (protocols_wire protocols)
 protocols_exceed i protocols item within at over =
     let more : take (i + 1) protocols ≡ take i protocols ++ item ∷ [] =
-        take_more protocols i item within
-        ∙ ap (λ (p : List ℕ). take i protocols ++ p ∷ []) (sym at) in
-    omega (arith, protocols_wire-front (i + 1) protocols, protocols_wire-push
-        (take i protocols) item, ap (λ (ps : List (List ℕ)). length (protocols_wire ps)) more)
+    take_more protocols i item within
+    ∙ ap (λ (p : List ℕ). take i protocols ++ p ∷ []) (sym at) in
+    omega (
+      arith,
+      protocols_wire-front (i + 1) protocols,
+      protocols_wire-push
+          (take i protocols) item,
+      ap (λ (ps : List (List ℕ)). length (protocols_wire ps)) more,
+    )
 
--- a push is refused for want of memory, or where the protocols exceed the limit
+-- a push is refused when allocation fails, or where the protocols exceed the limit
 pub push_answers : (error : BuildAlpnError) (old len : ℕ) (value : Value) → IsProtocolLength len
     → IsPushed {X = Unit {0}} (Err error) old len
     → (65535 < old + 1 + len → 65535 < length (encode value))
-        → Answers {T = Value} (λ v. v) (Err (protocol_fault error)) (short_value value)
+    → Answers {T = Value} (λ v. v) (Err (protocol_fault error)) (short_value value)
 push_answers push_errors.InvalidProtocol old len value is refused over = absurd (refused is)
 push_answers push_errors.LongSvcParam old len value is refused over =
     short_value-long value (over refused.1)

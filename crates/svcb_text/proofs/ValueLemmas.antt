@@ -24,9 +24,9 @@ utf8_text-ok text is = rw (is_utf8-from_IsUtf8 text is) refl
 pub utf8_text-bad : (text : List ℕ) → (IsUtf8 text → ⊥) → utf8_text text ≡ Err BadUtf8
 utf8_text-bad text bad =
     elim (is_utf8 text) as (λ b. is_utf8 text ≡ b → cond b (Ok text) (Err BadUtf8) ≡ Err BadUtf8) [
-  | true ↦ λ e. absurd (bad (IsUtf8-from_is_utf8 text e))
-  | false ↦ λ e. refl
-] refl
+      | true ↦ λ e. absurd (bad (IsUtf8-from_is_utf8 text e))
+      | false ↦ λ e. refl
+    ] refl
 
 -- ---- lengths of values
 
@@ -53,7 +53,7 @@ cause_answers NoMemory value cause = tt
 -- what is made of a value whose octets are counted answers as the value does
 module _ (made : Result Value BuildValueError) (outcome : Result Value ScanError) (value : Value)
     (is : IfOk made (λ v. v ≡ value))
-        (passed : outcome ≡ result_map_both (λ v. v) scan_fault_of made) where
+    (passed : outcome ≡ result_map_both (λ v. v) scan_fault_of made) where
   pub caused_answers : OnOk made (length (encode value) ≤ 65535)
       → IfErr made (IsCause (length (encode value)))
       → Answers {T = Value} (λ v. v) outcome (short_value value)
@@ -91,9 +91,9 @@ built_not_empty (Err NoMemory) len some built = built.1
 pub built_answers : (made : Result Value BuildValueError) (outcome : Result Value ScanError)
     (value : Value) (len : ℕ) → IfOk made (λ v. v ≡ value)
     → outcome ≡ result_map_both (λ v. v) scan_fault_of made → length (encode value) ≡ len
-        → IsBuilt made len → Answers {T = Value} (λ v. v) outcome (short_value value)
+    → IsBuilt made len → Answers {T = Value} (λ v. v) outcome (short_value value)
 built_answers made outcome value len is passed count built =
     let counted : IsBuilt made (length (encode value)) =
-        subst (λ (n : ℕ). IsBuilt made n) (sym count) built in
+    subst (λ (n : ℕ). IsBuilt made n) (sym count) built in
     caused_answers made outcome value is passed (built_short made (length (encode value)) counted)
-        (built_cause made (length (encode value)) counted)
+    (built_cause made (length (encode value)) counted)

@@ -6,7 +6,7 @@ use Rattle.svcb_list.specs.declared.errors.BuildAlpnError.TheVariants as push_er
 use Rattle.text_spec.specs.declared.errors.ScanError.{ScanError}
 use Rattle.text_spec.specs.declared.errors.ScanError.TheVariants as faults
 
--- want of memory stays, and every other cause is the value's length
+-- a failed allocation stays, and every other cause is the value's length
 abbrev pub scan_fault_of : BuildValueError → ScanError
 scan_fault_of NoMemory = faults.NoMemory
 scan_fault_of error = faults.LongValue

@@ -6,13 +6,13 @@ ghost use Rattle.svcb_text.specs.AllValues.{value_of};
 ghost use Rattle.text_spec.specs.Scanning.{Answers};
 ghost use Rattle.svcb_spec.specs.ValueTexts.{value_of_text};
 
+use crate::AllValues;
 use crate::alpn::scan_alpn;
 use crate::list_values::{scan_groups, scan_ipv4hint, scan_ipv6hint, scan_mandatory};
 use crate::scan_value::ScanSvcParamValue;
 use crate::single_values::{check_no_text, scan_dohpath, scan_ech, scan_opaque, scan_port};
 use registry::SvcParamKey;
 use std::alloc::Global;
-use crate::AllValues;
 use svcb_value::{NoDefaultAlpn, Ohttp};
 use text_spec::ScanError;
 

@@ -44,8 +44,8 @@ fn read_protocols(alloc: Global, text: &[u8]) -> Result<Vec<Octets>, ScanError>
     Ok(protocols)
 }
 
-/// The value of protocols. Refused, as `LongValue`, exactly where it has more than 65,535 octets, else for want of
-/// memory alone.
+/// The value of protocols. Refused, as `LongValue`, exactly where it has more than 65,535 octets, else when allocation
+/// fails alone.
 fn build_alpn(alloc: Global, protocols: &[Octets]) -> Result<Alpn, ScanError>
     requires { Each (λ protocol. IsProtocolLength (length protocol)) protocols.now }
     ensures { Answers (λ value. value) result (short_value (values.Alpn protocols.now)) }

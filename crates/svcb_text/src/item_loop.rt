@@ -27,12 +27,13 @@ pub(crate) trait TakesItems: Sized + Drop {
     /// What an item's text makes of it, or the text's fault.
     ghost adds: { Seen → List ℕ → Result Seen ScanError };
 
-    /// Adds the item that a text is. It is let go where the text is refused, or for want of memory.
+    /// Adds the item that a text is. It is let go where the text is refused, or when allocation fails.
     fn add(self, text: &[u8]) -> Result<Self, ScanError>
         ensures { Answers seen result (adds (seen self) text.now) };
 }
 
-/// What the items of a text, which has octets, make of a list in turn. Refused by the first fault, or for want of memory.
+/// What the items of a text, which has octets, make of a list in turn. Refused by the first fault, or when allocation
+/// fails.
 pub(crate) fn read_list<L: TakesItems>(start: L, text: &[u8]) -> Result<L, ScanError>
     ensures { Answers L.seen result (read_list L.adds (L.seen start) text.now) }
 {
@@ -40,7 +41,7 @@ pub(crate) fn read_list<L: TakesItems>(start: L, text: &[u8]) -> Result<L, ScanE
     add_items(start, text)
 }
 
-/// What the items of a text make of a list in turn. Refused by the first fault, or for want of memory.
+/// What the items of a text make of a list in turn. Refused by the first fault, or when allocation fails.
 fn add_items<L: TakesItems>(start: L, text: &[u8]) -> Result<L, ScanError>
     ensures { Answers L.seen result (add_items L.adds (L.seen start) (comma_items text.now)) }
 {

@@ -47,7 +47,7 @@ pub(crate) fn scan_mandatory(alloc: Global, text: &[u8]) -> Result<Mandatory, Sc
     or_fault(Mandatory::from_keys(alloc, &keys))
 }
 
-/// Numbers as keys, in ascending order. Refused for want of memory alone.
+/// Numbers as keys, in ascending order. Fails only with `NoMemory`.
 fn keys_of(alloc: Global, numbers: &BTreeSet<u16>) -> Result<Vec<SvcParamKey>, AllocError>
     ensures { IfOk result (λ keys. keys.items ≡ numbers.now.keys) }
 {

@@ -6,19 +6,19 @@ ghost use Rattle.svcb_text.specs.AllValues.{value_of};
 ghost use Rattle.text_spec.specs.Scanning.{Answers};
 ghost use Rattle.svcb_spec.specs.ParamTexts.{key_text, value_text, is_key_octet, value_behind, spells};
 
+use crate::AllValues;
 use crate::all_values_scan::scan_value;
 use crate::single_values::scan_opaque;
 use registry::{IanaNumber, SvcParamKey};
 use std::alloc::Global;
-use crate::AllValues;
 use text_spec::ScanError;
 
 /// The value that the octets of a token spell: a key, and behind an `=` the value's text, as `port=53` (RFC 9460,
-/// section 2.1). With no `=` the text has no octets. Behind a mnemonic stands a value of the key's type, as
-/// `alpn=h2`; behind `key` and a number stand any octets, as `key1=h2`.
+/// section 2.1). With no `=` the text has no octets. Behind a mnemonic stands a value of the key's type, as `alpn=h2`;
+/// behind `key` and a number stand any octets, as `key1=h2`.
 ///
 /// `EmptyParam`: the token has no octets. `BadKeyChar`: its key has an octet other than `a` to `z`, `0` to `9` and `-`.
-/// `UnknownKey`: it names no key. Else by the first fault of the value's text, or for want of memory.
+/// `UnknownKey`: it names no key. Else by the first fault of the value's text, or when allocation fails.
 pub fn scan_param(alloc: Global, token: &[u8]) -> Result<AllValues, ScanError>
     ensures { Answers value_of result (spells token.now) }
 {

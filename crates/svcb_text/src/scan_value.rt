@@ -26,7 +26,7 @@ pub trait ScanSvcParamValue: SvcParamValue + Sized {
     ghost spelled: { ℕ → List ℕ → Result Seen ScanError };
 
     /// The value that the octets of a text spell under a key. `Ok(None)` exactly where the type does not take the key;
-    /// no octets are looked at then. Refused by the first fault of the text, or for want of memory.
+    /// no octets are looked at then. Refused by the first fault of the text, or when allocation fails.
     fn value_from_scan_octets(
         alloc: Global,
         key: SvcParamKey,

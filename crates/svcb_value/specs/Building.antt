@@ -3,7 +3,7 @@ use Rattle.std.specs.Prelude.{ℕ, ◌<◌, ◌≤◌}
 use Rattle.registry.specs.declared.errors.BuildValueError.{BuildValueError}
 use Rattle.registry.specs.declared.errors.BuildValueError.TheVariants.{LongSvcParam, ShortBuf, EmptyValue, NoMemory}
 
--- a value of so many octets is refused for its length, else for want of memory alone
+-- a value of so many octets is refused for its length, else only when allocation fails
 abbrev pub IsCause : ℕ → BuildValueError → Type 0
 IsCause len LongSvcParam = 65535 < len
 IsCause len ShortBuf = ⊥

@@ -1,4 +1,4 @@
--- A value whose octets are lent for writing.
+-- A value whose octets are borrowed for writing.
 use Rattle.std.specs.Prelude.{ℕ, List}
 use Rattle.std.specs.Borrow.{Lends, MutBor, Fml, u8, Array}
 use Rattle.svcb_spec.specs.Values.{Value, Unknown, key_of, encode}

@@ -23,7 +23,7 @@ take_param octets =
     if nat_lt (length octets) 4 then Err Short
     else if nat_lt (length octets) (4 + number_at octets 2) then Err Short
     else Ok (taking_param
-        (Unknown (number_at octets 0) (slice_range octets 4 (4 + number_at octets 2))))
+    (Unknown (number_at octets 0) (slice_range octets 4 (4 + number_at octets 2))))
 
 -- octets begin with the parameter of a key and a value, and the rest stands behind it
 pub record BeginsParameter (octets : List ℕ) (number : ℕ) (held behind : List ℕ) : Type 0 where

@@ -54,8 +54,8 @@ pub type DohPath = OpaqueValue<DohPathType>;
 pub type DohPathRef<'a> = OpaqueRef<'a, DohPathType>;
 
 impl OpaqueValue<DohPathType> {
-    /// The value of a text. Refused as `LongSvcParam` exactly where the text has more than 65,535 octets, before
-    /// memory is taken, and else for want of memory alone.
+    /// The value of a text. Refused as `LongSvcParam` exactly where the text has more than 65,535 octets, before memory
+    /// is taken, and else only when allocation fails.
     pub fn from_text(alloc: Global, text: &str) -> Result<DohPath, BuildValueError>
         ensures value { IfOk result (λ value. value ≡ values.DohPath text.now) }
         ensures ok { OnOk result (length text.now ≤ 65535) }

@@ -94,8 +94,8 @@ impl<T: OpaqueType> OpaqueValue<T> {
         })
     }
 
-    /// The value of all octets that remain. Refused as `Form` exactly where more than 65,535 remain, else for want of
-    /// memory alone; the parser then stays.
+    /// The value of all octets that remain. Refused as `Form` exactly where more than 65,535 remain, else when
+    /// allocation fails alone; the parser then stays.
     pub fn parse(alloc: Global, parser: &mut Parser<'_>) -> Result<OpaqueValue<T>, ParseError>
         ensures answer { GivesCopy (taking_all (octets_left parser.old)) result
             (whole_value long_fault T.value (octets_left parser.old)) }
@@ -136,7 +136,7 @@ impl<T: OpaqueType> OpaqueValue<T> {
         }
     }
 
-    /// A copy. Refused for want of memory alone.
+    /// A copy. Fails only with `NoMemory`.
     pub fn try_clone(&self, alloc: Global) -> Result<OpaqueValue<T>, NoMemory>
         ensures { IfOk result (λ value. value ≡ self.now) }
     {

@@ -78,7 +78,7 @@ impl<'a, T: OpaqueType> OpaqueRef<'a, T> {
         self.slice
     }
 
-    /// An owned copy. Refused for want of memory alone.
+    /// An owned copy. Fails only with `NoMemory`.
     pub fn to_owned_data(&self, alloc: Global) -> Result<OpaqueValue<T>, NoMemory>
         ensures { IfOk result (λ value. value ≡ T.value self.now.slice.now) }
     {

@@ -45,7 +45,7 @@ pub fn put_param(target: &mut Vec<u8>, key: u16, value: &[u8])
     target.extend_from_slice(value).unwrap();
 }
 
-/// Appends a parameter, for which room is made. Refused for want of memory alone; the target then stays.
+/// Appends a parameter, for which room is made. Fails only with `NoMemory`; the target then stays.
 pub(crate) fn compose_param(key: u16, value: &[u8], target: &mut Vec<u8>) -> Result<(), NoMemory>
     requires fits { length value.now < 65536 }
     ensures appends { AppendsOctets target.old.items target.new.items

@@ -57,7 +57,7 @@ impl UnknownSvcParam {
     }
 
     /// All octets that remain, as the value of a key. Refused as `Form` exactly where more than 65,535 remain, else
-    /// for want of memory alone; the parser then stays.
+    /// only when allocation fails; the parser then stays.
     pub fn parse(
         alloc: Global,
         key: SvcParamKey,
@@ -75,7 +75,7 @@ impl UnknownSvcParam {
     }
 
     /// The parameter that comes next: its key, the length of its value, and the value. Refused as `ShortInput` exactly
-    /// where one of them runs past the end, else for want of memory alone; the parser then stays.
+    /// where one of them runs past the end, else only when allocation fails; the parser then stays.
     pub fn parse_param(
         alloc: Global,
         parser: &mut Parser<'_>,
@@ -93,8 +93,8 @@ impl UnknownSvcParam {
         })
     }
 
-    /// Appends the parameter: its key, the length of its value, and the value. Refused for want of memory alone; the
-    /// target then stays.
+    /// Appends the parameter: its key, the length of its value, and the value. Fails only with `NoMemory`; the target
+    /// then stays.
     pub fn compose_param(&self, target: &mut Vec<u8>) -> Result<(), NoMemory>
         ensures appends { AppendsOctets target.old.items target.new.items
             (param_wire self.now) result }
@@ -144,7 +144,7 @@ impl UnknownSvcParam {
         }
     }
 
-    /// A copy. Refused for want of memory alone.
+    /// A copy. Fails only with `NoMemory`.
     pub fn try_clone(&self, alloc: Global) -> Result<UnknownSvcParam, NoMemory>
         ensures { IfOk result (λ param. param ≡ self.now) }
     {

@@ -93,8 +93,8 @@ impl<'a> UnknownSvcParamRef<'a> {
         self.slice
     }
 
-    /// Appends the parameter: its key, the length of its value, and the value. Refused for want of memory alone; the
-    /// target then stays.
+    /// Appends the parameter: its key, the length of its value, and the value. Fails only with `NoMemory`; the target
+    /// then stays.
     pub fn compose_param(&self, target: &mut Vec<u8>) -> Result<(), NoMemory>
         ensures appends { AppendsOctets target.old.items target.new.items
             (param_wire (seen_unknown self.now)) result }
@@ -103,7 +103,7 @@ impl<'a> UnknownSvcParamRef<'a> {
         compose_param(self.key, self.slice, target)
     }
 
-    /// An owned copy. Refused for want of memory alone.
+    /// An owned copy. Fails only with `NoMemory`.
     pub fn to_owned_data(&self, alloc: Global) -> Result<UnknownSvcParam, NoMemory>
         ensures { IfOk result (λ param. param ≡ seen_unknown self.now) }
     {

@@ -107,7 +107,7 @@ line_scanned rtype text found is =
     let tokens = is.has.0 in
     let read = has_tokens line tokens (line_again text tokens is.has.1) in
     ap (λ (fault : Option ScanError). elim fault
-        [ None ↦ (union_scan rtype (tokens_in line) 0).outcome | Some f ↦ Err f ]) read.0
+    [ None ↦ (union_scan rtype (tokens_in line) 0).outcome | Some f ↦ Err f ]) read.0
     ∙ ap (λ (ts : List (List Symbol)). (union_scan rtype ts 0).outcome) read.1
     ∙ ap (λ (scanned : Scanned RecordData). scanned.outcome) (is.scanned tokens is.has.1)
 
@@ -117,12 +117,12 @@ scanned_back : UnionTextReadBack → (rtype : ℕ) (found : RecordData) (text : 
 unfolding answer_of
 scanned_back texts rtype found text is text_is =
     let is_text = subst (λ n. IsScannedAs (union_scan n) (union_printed found) found) is.number
-        (texts found is.is_data) in
+    (texts found is.is_data) in
     scan_due rtype text _
-        (ap (answer_of (Scan rtype)) text_is
-        ∙ ap data_scanned (line_scanned rtype (union_printed found) found is_text))
+    (ap (answer_of (Scan rtype)) text_is
+    ∙ ap data_scanned (line_scanned rtype (union_printed found) found is_text))
     (let fits = is.fits
-        in subst (λ (line : List ℕ). length line ≤ MAX_INPUT) (sym text_is) (omega arith))
+    in subst (λ (line : List ℕ). length line ≤ MAX_INPUT) (sym text_is) (omega arith))
 
 -- ---- wherever `show` writes a text
 
@@ -140,7 +140,7 @@ read_shown (Err fault) is = absurd (omega (arith, is))
 spelled_read : (rtype : ℕ) (spelled : Result (List ℕ) InputFault)
     → (spelled_show_answer rtype spelled).status ≡ 0
     → (octets : List ℕ) × (spelled ≡ Ok octets) × ((data_shown (data_in rtype octets)).status ≡ 0)
-        × (spelled_show_answer rtype spelled ≡ data_shown (data_in rtype octets))
+    × (spelled_show_answer rtype spelled ≡ data_shown (data_in rtype octets))
 spelled_read rtype (Ok octets) is = (octets, refl, is, refl)
 spelled_read rtype (Err fault) is = absurd (omega (arith, is))
 
@@ -165,22 +165,22 @@ spelled_small : (all : List (List ℕ)) (octets : List ℕ) → only_line all �
     → AreSmall octets
 spelled_small all octets is =
     hexadecimal_small (slice_get all 0) octets
-        (some_needed (option_and_then hexadecimal_octets (slice_get all 0))
-        (second_fault all) octets is)
+    (some_needed (option_and_then hexadecimal_octets (slice_get all 0))
+    (second_fault all) octets is)
 
 shown_back : UnionTextReadBack → (rtype : ℕ) → IsReadShort rtype → ShownIsScannedBack rtype
 unfolding answer_of
 shown_back texts rtype short input answer due_is good =
     let answer_is : show_answer rtype input ≡ answer = shown_short rtype input answer due_is good in
     let shows : (show_answer rtype input).status ≡ 0 =
-        ap (λ (a : report.Answer). a.status) answer_is ∙ good in
+    ap (λ (a : report.Answer). a.status) answer_is ∙ good in
     let given = spelled_read rtype (spelled_octets input) shows in
     let octets = given.0 in
     let read = read_shown (data_in rtype octets) given.2 in
     let found = read.0 in
     let is = short octets found (spelled_small (lines input) octets given.1) read.1 in
     let text : show_answer rtype input ≡ report.done_answer (union_printed found) =
-        given.3 ∙ read.2 in
+    given.3 ∙ read.2 in
     record {
       octets = octets;
       found = found;
@@ -199,7 +199,7 @@ not_below n = grind (arith, nat_tests)
 whole_read : {V : Type 0} (type : V → RecordData) (end : ℕ) (r : Result V Fault)
     (found : RecordData)
     → whole_data end (read_as type (reaching end r)) ≡ Ok found → (held : V) × (r ≡ Ok held)
-        × (found ≡ type held)
+    × (found ≡ type held)
 whole_read type end (Err fault) found is = absurd cc
 whole_read type end (Ok held) found is =
     let here = ap (λ octets_left. cond octets_left (Err Form) (Ok (type held))) (not_below end) in
@@ -215,7 +215,7 @@ in_part false held found same = cc
 part_read : {V : Type 0} (type : V → RecordData) (end : ℕ) (r : Result (DataRead V) Fault)
     (found : RecordData)
     → whole_data end (read_as type r) ≡ Ok found → (held : DataRead V) × (r ≡ Ok held)
-        × (found ≡ type held.value)
+    × (found ≡ type held.value)
 part_read type end (Err fault) found is = absurd cc
 part_read type end (Ok held) found is =
     (held, refl, in_part (nat_lt held.next end) (type held.value) found is)
@@ -225,17 +225,17 @@ module _ (composed : FieldsComposedBack) (row : Row) (fits : LineFits row)
     (type : Data → RecordData) where
   fields_read : (octets : List ℕ) (found : RecordData) → AreSmall octets
       → whole_data (length octets)
-          (read_as type
-          (reaching (length octets) (read_data row (octets_left (whole_message octets)))))
-          ≡ Ok found
+      (read_as type
+      (reaching (length octets) (read_data row (octets_left (whole_message octets)))))
+      ≡ Ok found
       → (held : Data) × rows.IsAssociationData row held
       × (length (report.line (fields_printed row held)) < 16777216) × (found ≡ type held)
   fields_read octets found small is =
       let held = whole_read type (length octets)
-          (read_data row (octets_left (whole_message octets))) found is in
+      (read_data row (octets_left (whole_message octets))) found is in
       let is_data =
-          (composed row (octets_left (whole_message octets)) held.0
-          (label_octets octets 0 (length octets) (octets_from octets small)) held.1).0 in
+      (composed row (octets_left (whole_message octets)) held.0
+      (label_octets octets 0 (length octets) (octets_from octets small)) held.1).0 in
       (held.0, is_data, fits held.0 is_data, held.2)
 
 module _ (composed : FieldsComposedBack) (fits : TypesLinesFit) where
@@ -262,7 +262,7 @@ module _ (composed : FieldsComposedBack) (fits : TypesLinesFit) where
   openpgpkey_short : IsReadShort 61
   openpgpkey_short octets found small is =
       let held = fields_read composed openpgpkey fits.openpgpkey_fits Openpgpkey octets found small
-          is in
+      is in
       rw held.3 (record { number = refl; is_data = held.1; fits = held.2 })
 
   zonemd_short : IsReadShort 63
@@ -275,8 +275,11 @@ ipseckey_short composed fits octets found small is =
     let input = whole_message octets in
     let held = part_read Ipseckey (length octets) (ipseckey_read input) found is in
     let whole = composed input held.0 (octets_from octets small) (omega arith) held.1 in
-    rw held.2 (record { number = refl; is_data = (whole.is_data, whole.has_key);
-        fits = fits held.0.value whole.is_data })
+    rw held.2 (record {
+      number = refl;
+      is_data = (whole.is_data, whole.has_key);
+      fits = fits held.0.value whole.is_data;
+    })
 
 all_octets : (octets : List ℕ) → length octets ≡ length octets - 0
 all_octets octets = omega arith
@@ -291,14 +294,14 @@ module _ (is_data : ReadIsData) (fits : DataLineFits) where
   svcb_short octets found small is =
       let held = whole_read Svcb (length octets) (read octets 0 (length octets - 0)) found is in
       let is_data = service_data octets held.0 small
-          (ap (λ len. read octets 0 len) (all_octets octets) ∙ held.1) in
+      (ap (λ len. read octets 0 len) (all_octets octets) ∙ held.1) in
       rw held.2 (record { number = refl; is_data = is_data; fits = fits held.0 is_data })
 
   https_short : IsReadShort 65
   https_short octets found small is =
       let held = whole_read Https (length octets) (read octets 0 (length octets - 0)) found is in
       let is_data = service_data octets held.0 small
-          (ap (λ len. read octets 0 len) (all_octets octets) ∙ held.1) in
+      (ap (λ len. read octets 0 len) (all_octets octets) ∙ held.1) in
       rw held.2 (record { number = refl; is_data = is_data; fits = fits held.0 is_data })
 
 -- an address that is read has its octets
@@ -312,13 +315,16 @@ address_held len octets held small is = elim (cases_lt (length octets) (0 + len)
   | inr enough ↦
       let test : nat_lt (length octets) (0 + len) ≡ false = grind (arith, nat_tests) in
       let read : DataRead (List ℕ) =
-          record { value = next_octets len (whole_message octets); next = 0 + len } in
+      record { value = next_octets len (whole_message octets); next = 0 + len } in
       let here : address_read len (whole_message octets) ≡ Ok read =
-          ap (λ short. cond short (Err Short) (Ok read)) test in
+      ap (λ short. cond short (Err Short) (Ok read)) test in
       let both : Ok held ≡ Ok read = sym is ∙ here in
       let same : held ≡ read = cc in
-      rw same (omega (arith, length-take (0 + len - 0) octets, enough), label_octets octets 0
-          (0 + len) (octets_from octets small))
+      rw same (
+        omega (arith, length-take (0 + len - 0) octets, enough),
+        label_octets octets 0
+            (0 + len) (octets_from octets small),
+      )
 ]
 
 a_short : IsReadShort 1
@@ -341,9 +347,12 @@ aaaa_short octets found small is =
     rw held.2 (record {
       number = refl;
       is_data = is_address;
-      fits = omega
-          (arith, ipv6-length address is_address.0 is_address.1, length-append (ipv6_text address)
-          (10 ∷ []));
+      fits = omega (
+        arith,
+        ipv6-length address is_address.0 is_address.1,
+        length-append (ipv6_text address)
+            (10 ∷ []),
+      );
     })
 
 -- octets that are read are at most 65,535
@@ -357,22 +366,22 @@ unknown_held rtype octets held is = elim (cases_lt 65535 (length octets)) [
       let test : nat_lt 65535 (length octets) ≡ false = grind (arith, nat_tests) in
       let read : UnknownData = record { rtype = rtype; octets = octets } in
       let here : unknown_read rtype octets ≡ Ok read =
-          ap (λ long. cond long (Err Form) (Ok read)) test in
+      ap (λ long. cond long (Err Form) (Ok read)) test in
       let both : Ok held ≡ Ok read = sym is ∙ here in
       (omega arith, cc)
 ]
 
 unknown_short : UnknownTextByOctets → (rtype : ℕ)
     → ((octets : List ℕ)
-        → data_in rtype octets
-        ≡ whole_data (length octets)
-        (read_as Unknown
-        (reaching (length octets) (unknown_read rtype (octets_left (whole_message octets))))))
+    → data_in rtype octets
+    ≡ whole_data (length octets)
+    (read_as Unknown
+    (reaching (length octets) (unknown_read rtype (octets_left (whole_message octets))))))
     → IsReadShort rtype
 unknown_short lengths rtype in_octets octets found small is =
     let all = octets_left (whole_message octets) in
     let held = whole_read Unknown (length octets) (unknown_read rtype all) found
-        (sym (in_octets octets) ∙ is) in
+    (sym (in_octets octets) ∙ is) in
     let known = unknown_held rtype all held.0 held.1 in
     let are : AreOctets all = label_octets octets 0 (length octets) (octets_from octets small) in
     rw held.2 (rw known.1 (record {
@@ -426,13 +435,13 @@ every_type lengths are rtype = elim (cases_eq rtype 1) [
                       | inl is ↦ rw is are.https
                       | inr n65 ↦ unknown_short lengths rtype (λ octets.
                           rw (another rtype 1 n1)
-                              (rw (another rtype 28 n28)
-                              (rw (another rtype 44 n44)
-                              (rw (another rtype 45 n45) (rw (another rtype 52 n52) (
+                          (rw (another rtype 28 n28)
+                          (rw (another rtype 44 n44)
+                          (rw (another rtype 45 n45) (rw (another rtype 52 n52) (
                           rw (another rtype 59 n59)
-                              (rw (another rtype 60 n60)
-                              (rw (another rtype 61 n61)
-                              (rw (another rtype 63 n63) (rw (another rtype 64 n64) (
+                          (rw (another rtype 60 n60)
+                          (rw (another rtype 61 n61)
+                          (rw (another rtype 63 n63) (rw (another rtype 64 n64) (
                           rw (another rtype 65 n65) (refl))))))))))))
                     ]
                   ]
@@ -481,8 +490,8 @@ digits_line : (digits : List ℕ) → AllPass is_hex_digit digits
 digits_line [] are = refl
 digits_line (c ∷ digits) are =
     ap (λ ends. cond ends ([] ∷ pieces 10 (digits ++ 10 ∷ []))
-        (onto_first c (pieces 10 (digits ++ 10 ∷ []))))
-        (no_line_end c (All-head digit_holds c digits are))
+    (onto_first c (pieces 10 (digits ++ 10 ∷ []))))
+    (no_line_end c (All-head digit_holds c digits are))
     ∙ ap (onto_first c) (digits_line digits (All-tail digit_holds c digits are))
 
 one_line : (line : List ℕ) → without_empty_last (line ∷ [] ∷ []) ≡ line ∷ []
@@ -495,7 +504,7 @@ spelled_back octets small =
     let digits = encode_lower octets in
     let back = decode_of-encode_lower octets small in
     ap (λ all. only_line (without_empty_last all))
-        (digits_line digits (decode_of-ok digits octets back).1)
+    (digits_line digits (decode_of-ok digits octets back).1)
     ∙ ap only_line (one_line digits)
     ∙ ap (λ (r : Result (List ℕ) FromHexError). line_or_fault 1 (result_ok r)
     >>= λ x. first_fault_or None (Ok x)) back
@@ -504,12 +513,12 @@ spelled_back octets small =
 service_read : (type : Record → RecordData) (octets : List ℕ) (found : Record)
     → read octets 0 (length octets) ≡ Ok found
     → whole_data (length octets)
-        (read_as type (reaching (length octets) (read octets 0 (length octets - 0))))
-        ≡ Ok (type found)
+    (read_as type (reaching (length octets) (read octets 0 (length octets - 0))))
+    ≡ Ok (type found)
 service_read type octets found is =
     ap (λ (r : Result Record Fault). whole_data (length octets)
-        (read_as type (reaching (length octets) r)))
-        (sym (ap (λ len. read octets 0 len) (all_octets octets)) ∙ is)
+    (read_as type (reaching (length octets) r)))
+    (sym (ap (λ len. read octets 0 len) (all_octets octets)) ∙ is)
     ∙ ap (λ octets_left. cond octets_left (Err Form) (Ok (type found))) (not_below (length octets))
 
 -- the line of hexadecimal isn't too long

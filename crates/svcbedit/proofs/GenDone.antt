@@ -26,7 +26,7 @@ use Rattle.svcbedit.specs.Report as report
 put_within : (pairs : Pairs) (limit key : ℕ) (octets : List ℕ) → IsMap pairs → key < 65536
     → length octets < 65536 → length (wire pairs) ≤ limit
     → (there : Option (List ℕ)) → value_at pairs key ≡ there → (long : Bool)
-        → nat_lt limit (length (wire pairs) + 4 + length octets) ≡ long
+    → nat_lt limit (length (wire pairs) + 4 + length octets) ≡ long
     → length (wire
     (pairs_after (if is_some there then DuplicateKey else if long then ShortBuf else Accepted)
     pairs key octets)) ≤ limit
@@ -46,7 +46,7 @@ accept_within pairs limit (value ∷ values) is_map are within =
     let key = key_of value in
     let octets = encode value in
     accept_within (pairs_after (reply_to pairs limit key octets) pairs key octets) limit values
-        (accept-map pairs limit (value ∷ []) is_map (are.0, tt)) are.1
+    (accept-map pairs limit (value ∷ []) is_map (are.0, tt)) are.1
     (put_within pairs limit key octets is_map (key_of_small value are.0.0) are.0.1 within
     (value_at pairs key) refl (nat_lt limit (length (wire pairs) + 4 + length octets)) refl)
 
@@ -73,9 +73,13 @@ own_params-pairs (suc left) i =
 own_pairs-ascend : (least left i : ℕ) → least ≤ 100 + 8 * i → i + left ≤ 8000
     → Ascends least (own_pairs left i)
 own_pairs-ascend least zero i low within = tt
-own_pairs-ascend least (suc left) i low within =
-    (low, omega arith, grind arith, own_pairs-ascend (100 + 8 * i + 1) left (i + 1) (omega arith)
-        (omega arith))
+own_pairs-ascend least (suc left) i low within = (
+  low,
+  omega arith,
+  grind arith,
+  own_pairs-ascend (100 + 8 * i + 1) left (i + 1) (omega arith)
+      (omega arith),
+)
 
 length-own_pairs : (left i : ℕ) → length (pairs_wire (own_pairs left i)) ≡ 6 * left
 length-own_pairs zero i = refl
@@ -123,7 +127,7 @@ unfolding pushes_below
 own_values zero within = tt
 own_values (suc j) within =
     each_value (j % 4 == 0) (own_push j) (pushes_below j) (omega arith, grind arith)
-        (own_values j (omega arith))
+    (own_values j (omega arith))
 
 -- ---- what is rebuilt
 
@@ -136,10 +140,10 @@ own_done back count within =
     let pushed = accept pairs 65532 pushes in
     let fits : length (wire pairs) ≤ 65532 = omega (arith, length-own_wire count within) in
     let short = accept_within pairs 65532 pushes (is_map count within)
-        (own_values (min count 2000) (omega arith)) fits in
+    (own_values (min count 2000) (omega arith)) fits in
     let in_limit : nat_lt 65532 (length (wire pairs)) ≡ false = grind (arith, nat_tests) in
     let in_all : nat_lt 65535 (length (rdata 1 [] pushed.pairs)) ≡ false = grind (arith, nat_tests)
-        in (
+    in (
       record { octets = rdata 1 [] pushed.pairs; replies = pushed.replies },
       ap (λ found. rebuild_of found pushes 65532) (own_read count within back)
           ∙ rw (in_limit, in_all) refl,
@@ -152,4 +156,4 @@ gen_done back count left =
     let none_read : nat_lt MAX_INPUT (length none) ≡ false = grind (arith, nat_tests) in
     let done = own_done back (min count 8000) (omega arith) in
     rw none_read
-        (ap (λ rebuilt. (report_of (λ r. report.done_answer (summary r)) rebuilt).status) done.1)
+    (ap (λ rebuilt. (report_of (λ r. report.done_answer (summary r)) rebuilt).status) done.1)

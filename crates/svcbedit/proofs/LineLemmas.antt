@@ -64,5 +64,10 @@ length-without_empty_last ((b ∷ piece) ∷ next ∷ more) =
 pub length-lines : (bytes : List ℕ) → length (lines bytes) ≤ length bytes + 1
 length-lines bytes =
     let count = length-slice_split (λ b. b == 10) bytes in
-    omega (arith, count, length-without_empty_last (pieces 10 bytes), count_by-le-length
-        (λ b. b == 10) bytes)
+    omega (
+      arith,
+      count,
+      length-without_empty_last (pieces 10 bytes),
+      count_by-le-length
+          (λ b. b == 10) bytes,
+    )

@@ -45,9 +45,9 @@ pub decimal_number-parsed : {E : Type 0} (text : List ℕ) (r : Result ℕ E)
     → get_or text 0 0 ≢ 43 → length text ≤ 10 → result_ok r ≡ decimal_number text
 decimal_number-parsed {E} text (Ok n) parsed unsigned short =
     let plain = parse_plain (numerals_by_value _ tells_all_ascii_digits) {E = E} 32 text
-        (Ok n) parsed unsigned in
+    (Ok n) parsed unsigned in
     grind (arith, nat_tests)
 decimal_number-parsed {E} text (Err e) parsed unsigned short =
     let plain = parse_plain (numerals_by_value _ tells_all_ascii_digits) {E = E} 32 text
-        (Err e) parsed unsigned in
+    (Err e) parsed unsigned in
     grind (arith, nat_tests)

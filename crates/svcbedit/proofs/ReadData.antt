@@ -54,9 +54,11 @@ wire_octets : (labels : List (List ℕ)) (octets : ℕ) → AreLabels octets lab
 wire_octets [] octets are_labels are = (omega arith, tt)
 wire_octets (label ∷ labels) octets are_labels are =
     let parts = octets_parts label (joined labels) are in
-    let small : length label < 64 = are_labels.1 in
-    (omega arith, octets_joined label (name_wire labels) parts.0
-        (wire_octets labels _ are_labels.3 parts.1))
+    let small : length label < 64 = are_labels.1 in (
+      omega arith,
+      octets_joined label (name_wire labels) parts.0
+          (wire_octets labels _ are_labels.3 parts.1),
+    )
 
 pairs_octets : (pairs : Pairs) (least : ℕ) → Ascends least pairs → HaveOctets pairs
     → AreOctets (pairs_wire pairs)
@@ -66,7 +68,7 @@ pairs_octets (pair ∷ pairs) least up are =
     let len = be2_octets (length pair.1) up.2 in
     octets_joined (be2 pair.0 ++ be2 (length pair.1) ++ pair.1) (pairs_wire pairs)
     (octets_joined (be2 pair.0 ++ be2 (length pair.1)) pair.1
-        (octets_joined (be2 pair.0) (be2 (length pair.1)) key len) are.0)
+    (octets_joined (be2 pair.0) (be2 (length pair.1)) key len) are.0)
     (pairs_octets pairs (pair.0 + 1) up.3 are.1)
 
 pub rdata_small : (found : Record) → IsRecordOfOctets found
@@ -74,10 +76,10 @@ pub rdata_small : (found : Record) → IsRecordOfOctets found
 rdata_small found is =
     let record_is = is.is_record in
     let pairs = subst AreOctets (sym (wire-pairs found.pairs record_is.is_map))
-        (pairs_octets found.pairs 0 record_is.is_map is.values) in
+    (pairs_octets found.pairs 0 record_is.is_map is.values) in
     let front = be2 found.priority ++ name_wire found.labels in
     small_from (front ++ wire found.pairs)
-        (octets_joined front (wire found.pairs)
-        (octets_joined (be2 found.priority) (name_wire found.labels)
-        (be2_octets found.priority record_is.priority)
+    (octets_joined front (wire found.pairs)
+    (octets_joined (be2 found.priority) (name_wire found.labels)
+    (be2_octets found.priority record_is.priority)
     (wire_octets found.labels 0 record_is.labels is.labels)) pairs)

@@ -49,8 +49,11 @@ module _ (rtype : ℕ) (octets : List ℕ) (old : Input) (begins : old ≡ whole
   module _ (new : Input) (count : ℕ) (found : RecordData)
       (is : value_read (union_read rtype old) ≡ Ok found)
       (moved : new
-          ≡ record { message = old.message; end = old.end;
-          pos = place_behind old.pos true (union_read rtype old) })
+      ≡ record {
+        message = old.message;
+        end = old.end;
+        pos = place_behind old.pos true (union_read rtype old);
+      })
       (left : count + new.pos ≡ new.end) where
     stands : new.pos ≡ place_behind 0 true (union_read rtype (whole_message octets))
     stands = ap (λ (input : Input). input.pos) moved
@@ -62,9 +65,9 @@ module _ (rtype : ℕ) (octets : List ℕ) (old : Input) (begins : old ≡ whole
     pub part_read : 0 < count → data_in rtype octets ≡ Err Form
     part_read more =
         part (length octets) (union_read rtype (whole_message octets)) found
-            (read_here (Ok found) is) (omega (arith, stands, ends, left, more))
+        (read_here (Ok found) is) (omega (arith, stands, ends, left, more))
 
     pub whole_read : count ≤ 0 → data_in rtype octets ≡ Ok found
     whole_read no_more =
         whole (length octets) (union_read rtype (whole_message octets)) found
-            (read_here (Ok found) is) (omega (arith, stands, ends, left, no_more))
+        (read_here (Ok found) is) (omega (arith, stands, ends, left, no_more))

@@ -25,7 +25,7 @@ pub behind-more : (front : List Value) (number : ℕ) (line : List ℕ) (more : 
     ≡ behind (front ++ push ∷ []) (pushes_of (number + 1) more)
 behind-more front number line more push e =
     ap (λ (o : Option Value). behind front
-        (line_or_fault number o >>= λ p. pushes_of (number + 1) more >>= λ ps. Ok (p ∷ ps))) (sym e)
+    (line_or_fault number o >>= λ p. pushes_of (number + 1) more >>= λ ps. Ok (p ∷ ps))) (sym e)
     ∙ behind-cons front push (pushes_of (number + 1) more)
 
 -- and so the item that holds the value
@@ -46,7 +46,7 @@ pub behind-bad : (front : List Value) (number : ℕ) (line : List ℕ) (more : L
     → behind front (pushes_of number (line ∷ more)) ≡ Err (BadLine number)
 behind-bad front number line more e =
     ap (λ (o : Option Value). behind front
-        (line_or_fault number o >>= λ p. pushes_of (number + 1) more >>= λ ps. Ok (p ∷ ps))) (sym e)
+    (line_or_fault number o >>= λ p. pushes_of (number + 1) more >>= λ ps. Ok (p ∷ ps))) (sym e)
 
 -- behind the last line all values are there
 pub behind-end : (front : List Value) (number : ℕ) (lines : List (List ℕ)) → lines ≡ []

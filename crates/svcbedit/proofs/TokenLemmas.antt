@@ -29,14 +29,14 @@ lone_token-is : (line : List ℕ) → text_fault line ≡ None
     → lone_token line ≡ lone_octets (tokens_in line)
 lone_token-is line sound =
     ap (λ (fault : Option ScanError). elim fault [ None ↦ Some (tokens_in line) | Some _ ↦ None ]
-        >>= lone_token
+    >>= lone_token
     >>= λ token. Some (octets_of token)) sound
 
 -- what scanning the first token leaves and answers
 abbrev FirstScanned : List (List Symbol) → Scan → Result (List ℕ) ScanError → Type 0
 FirstScanned tokens new result =
     Scans (λ (octets : List ℕ). octets) (one any_octets) (record { tokens = tokens; taken = 0 })
-        new result
+    new result
 
 -- where none is left behind it, it is the only one
 lone-first : (tokens : List (List Symbol)) (new : Scan) (octets : List ℕ)
@@ -47,7 +47,7 @@ lone-first (token ∷ []) new octets scans all =
     let read = scans.answer in let same : octets_of token ≡ octets = cc in ap (λ x. Some x) same
 lone-first (token ∷ next ∷ more) new octets scans all =
     let taken : new.taken ≡ 1 = scans.place
-        in absurd (omega (arith, taken, all, ap length scans.tokens))
+    in absurd (omega (arith, taken, all, ap length scans.tokens))
 
 -- where one is left, there is no only one
 lone-more : (tokens : List (List Symbol)) (new : Scan) (octets : List ℕ)
@@ -56,7 +56,7 @@ lone-more : (tokens : List (List Symbol)) (new : Scan) (octets : List ℕ)
 lone-more [] new octets scans left = refl
 lone-more (token ∷ []) new octets scans left =
     let taken : new.taken ≡ 1 = scans.place
-        in absurd (omega (arith, taken, left, ap length scans.tokens))
+    in absurd (omega (arith, taken, left, ap length scans.tokens))
 lone-more (token ∷ next ∷ more) new octets scans left = refl
 
 -- nor is there one where the first is refused
@@ -100,8 +100,8 @@ module _ (line : List ℕ) (old new : Scan) (sound : text_fault line ≡ None)
 pub entry_answers : {X Y : Type 0} (view : X → Y) (scanning : Scanning Y) (text : List ℕ)
     (result : Result X ScanError) → text_fault text ≡ None
     → Answers view result (scanning (tokens_in text) 0).outcome
-        → Answers view result (entry_scanned scanning text)
+    → Answers view result (entry_scanned scanning text)
 entry_answers {Y = Y} view scanning text result sound =
     subst (Answers view result)
     (sym (ap (λ (fault : Option ScanError). elim fault
-        [ None ↦ (scanning (tokens_in text) 0).outcome | Some f ↦ Err f ]) sound))
+    [ None ↦ (scanning (tokens_in text) 0).outcome | Some f ↦ Err f ]) sound))

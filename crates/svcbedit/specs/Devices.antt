@@ -22,7 +22,7 @@ pub record Draws {S T : Type 0} (reads : Bool) (left : S → Option (List ℕ)) 
       (λ _. faults new ≡ faults old)
       (λ stop. SourceCause stop (faults old) (faults new))
 
--- The report of the answer is appended to the sink, or a front of it.
+-- The report of the answer is appended to the sink, or a prefix of it.
 pub record Reports {K : Type 0} (held : K → Option (List ℕ)) (faults : K → ℕ)
     (old new : K) (answer : Option Answer) (result : Result ℕ RunError) : Type 0 where
   pub performs : Performs result answer (held old) (held new)

@@ -7,5 +7,5 @@ use Rattle.std.specs.Str.Parse.{digits_value}
 abbrev pub decimal_number : List ℕ → Option ℕ
 decimal_number text =
     if nat_le 1 (length text) && nat_le (length text) 10 && all_ascii_digits text && nat_lt
-        (digits_value 10 text) (2 ^ 32)
+    (digits_value 10 text) (2 ^ 32)
     then Some (digits_value 10 text) else None

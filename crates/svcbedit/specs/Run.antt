@@ -10,7 +10,7 @@ use Rattle.svcbedit.specs.declared.run_error.RunError.TheVariants.{ReadFault, Wr
 abbrev pub Whole : Answer → Option (List ℕ) → Option (List ℕ) → Type 0
 Whole answer old new = Appends old new answer.report
 
--- a front of the report was written
+-- a prefix of the report was written
 abbrev pub Part : Answer → Option (List ℕ) → Option (List ℕ) → Type 0
 Part answer old new = (count : ℕ) × Appends old new (take count answer.report)
 
@@ -19,7 +19,7 @@ pub record Ends (status : ℕ) (answer : Option Answer) (old new : Option (List 
   pub within : status ≤ 6
   -- below 4: that answer's status and whole report
   pub whole : status < 4 → IfSome answer (λ a. (status ≡ a.status) × Whole a old new)
-  -- a write failed: a front of its report
+  -- a write failed: a prefix of its report
   pub part : status ≡ 5 → IfSome answer (λ a. Part a old new)
   -- a read failed, or memory was wanting: nothing
   pub read_fault : status ≡ 4 → Keeps old new

@@ -14,7 +14,8 @@ run_error_status ReadFault = 4
 run_error_status WriteFault = 5
 run_error_status NoMemory = 6
 
--- the status where the system refuses the words: that of want of memory, or one that no run gives
+-- the status where the system refuses the words: that of a failed allocation, or one that no run
+-- gives
 abbrev pub status_without_words : ErrorKind → ℕ
 status_without_words OutOfMemory = 6
 status_without_words _ = 7

@@ -9,7 +9,7 @@ use Rattle.record_spec.specs.RecordData.{RecordData, union_wire}
 use Rattle.record_spec.specs.UnionTexts.{union_scan}
 use Rattle.svcbedit.specs.Report.{Answer, done_answer, not_done}
 
--- what a report says of a fault; want of memory is none, and nothing is written for it
+-- what a report says of a fault; a failed allocation is none, and nothing is written for it
 abbrev pub scan_fault_text : ScanError → List ℕ
 scan_fault_text errors.EndOfEntry = codes "end of entry"
 scan_fault_text errors.BadSymbol = codes "bad symbol"

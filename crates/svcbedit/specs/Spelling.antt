@@ -51,8 +51,13 @@ spelled_lines all = do
   place ← line_or_fault 1 (option_and_then place_of (slice_get all 0))
   message ← line_or_fault 2 (option_and_then hexadecimal_octets (slice_get all 1))
   pushes ← first_fault_or (place_fault place (length message)) (pushes_of 3 (drop 2 all))
-  Ok (record { message = message; start = place.start; len = place.len; limit = place.limit;
-      pushes = pushes })
+  Ok (record {
+    message = message;
+    start = place.start;
+    len = place.len;
+    limit = place.limit;
+    pushes = pushes;
+  })
 
 -- what an input that isn't too long spells, or its first fault
 abbrev pub spelling_of : List ℕ → Result Spelled InputFault

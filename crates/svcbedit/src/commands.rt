@@ -13,8 +13,7 @@ use devices::MAX_INPUT;
 use std::alloc::Global;
 use wire_base::NoMemory;
 
-/// The answer of a command to its input. A command that reads none is given an empty one. Refused for want of memory
-/// alone.
+/// The answer of a command to its input. A command that reads none is given an empty one. Fails only with `NoMemory`.
 #[tactic(auto, unfolding(crate::specs::Commands::answer_of))]
 pub fn command_answer(alloc: Global, command: Command, input: &[u8]) -> Result<Answer, NoMemory>
     ensures { IfOk result (λ answer. answer_view answer ≡ answer_to command input.now) }

@@ -15,7 +15,7 @@ use std::alloc::Global;
 use svcb_rdata::{RebuildError, rebuild_svcb};
 use wire_base::{NoMemory, ParseError};
 
-/// The answer where nothing was rebuilt, for this reason. Refused for want of memory alone.
+/// The answer where nothing was rebuilt, for this reason. Fails only with `NoMemory`.
 pub fn refusal_answer(alloc: Global, error: RebuildError) -> Result<Answer, NoMemory>
     ensures { (whole : spec.Rebuilt → report.Answer) (given : Result spec.Rebuilt spec.Refusal)
         → IsRefusal error given
@@ -58,7 +58,7 @@ fn rebuilt_answer(alloc: Global, spelling: &Spelling) -> Result<Answer, NoMemory
     }
 }
 
-/// The answer of `edit` to an input. Refused for want of memory alone.
+/// The answer of `edit` to an input. Fails only with `NoMemory`.
 pub fn edit_answer(alloc: Global, input: &[u8]) -> Result<Answer, NoMemory>
     requires { length input.now ≤ MAX_INPUT }
     ensures { IfOk result (λ answer. answer_view answer ≡ edit_answer input.now) }

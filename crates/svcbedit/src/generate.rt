@@ -168,7 +168,7 @@ fn summary_answer(alloc: Global, rebuilt: &Rebuilt) -> Result<Answer, NoMemory>
     })
 }
 
-/// The answer of `gen` to a count. Refused for want of memory alone.
+/// The answer of `gen` to a count. Fails only with `NoMemory`.
 pub fn gen_answer(alloc: Global, count: u16) -> Result<Answer, NoMemory>
     ensures { IfOk result (λ answer. answer_view answer ≡ gen_answer count) }
 {

@@ -6,7 +6,7 @@ use hex::FromHexError;
 use std::alloc::Global;
 use wire_base::{NoMemory, Octets};
 
-/// Reads an even count of hexadecimal digits, in either case. Refused for want of memory alone.
+/// Reads an even count of hexadecimal digits, in either case. Fails only with `NoMemory`.
 pub fn octets_in(alloc: Global, text: &[u8]) -> Result<Option<Octets>, NoMemory>
     ensures { IfOk result (λ octets. octets ≡ hexadecimal_octets text.now) }
 {

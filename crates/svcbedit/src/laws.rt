@@ -2,12 +2,12 @@
 
 ghost use Rattle.svcbedit.specs.Laws.{TypesAreScannedBack, AllDataBack, GenIsDone};
 
-use record_laws::records::{ipseckey_composed_back, fields_composed_back};
-use svcb_laws::data_texts::read_is_data;
-use record_laws::text_lengths as lengths;
-use svcb_spec::laws::record_read_back;
-use svcb_laws::text_lengths::data_line_fits;
 use record_laws::any_type::union_text_read_back;
+use record_laws::records::{fields_composed_back, ipseckey_composed_back};
+use record_laws::text_lengths as lengths;
+use svcb_laws::data_texts::read_is_data;
+use svcb_laws::text_lengths::data_line_fits;
+use svcb_spec::laws::record_read_back;
 
 /// Wherever `show` writes a text, for any type number, `scan` gives of it exactly the octets of the data that was read.
 pub fn types_are_scanned_back()

@@ -6,9 +6,9 @@ ghost use Rattle.svcbedit.specs.RunErrors.{status_without_words};
 
 use devices::{StdSink, StdSource};
 use run::run;
+use run_error::RunError;
 use std::process::ExitCode;
 use std::{env, io};
-use run_error::RunError;
 
 mod commands;
 mod edit;
@@ -23,10 +23,10 @@ mod place;
 mod pushes;
 mod report;
 mod run;
+mod run_error;
 mod scan;
 mod show;
 mod spelling;
-mod run_error;
 #[cfg(test)]
 mod tests;
 #[cfg(test)]
@@ -41,7 +41,7 @@ fn given_words(rt: &HostRuntime) -> io::Result<Vec<String>> {
     Ok(env::args(rt)?.skip(1).collect(rt.alloc())?)
 }
 
-/// The status where the system refuses the words: that of want of memory, and else one that no run gives.
+/// The status where the system refuses the words: that of a failed allocation, and else one that no run gives.
 fn status_without_words(kind: io::ErrorKind) -> u8
     ensures { result ≡ status_without_words kind }
 {

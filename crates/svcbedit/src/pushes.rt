@@ -72,7 +72,7 @@ fn raw_param(alloc: Global, text: &[u8]) -> Result<Option<AllValues>, NoMemory>
     }
 }
 
-/// Reads `raw KEY`, `raw KEY HEX`, or the text of a parameter. Refused for want of memory alone.
+/// Reads `raw KEY`, `raw KEY HEX`, or the text of a parameter. Fails only with `NoMemory`.
 pub fn push_in(alloc: Global, line: &[u8]) -> Result<Option<AllValues>, NoMemory>
     ensures { IfOk result (λ push. option_map value_of push ≡ push_of line.now) }
 {

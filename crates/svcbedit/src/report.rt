@@ -45,7 +45,7 @@ pub struct Answer {
     pub report: String,
 }
 
-/// An answer with a text that stands ready. Refused for want of memory alone.
+/// An answer with a text that stands ready. Fails only with `NoMemory`.
 pub fn text_answer(alloc: Global, outcome: Outcome, text: &str) -> Result<Answer, NoMemory>
     ensures { IfOk result (λ answer. answer_view answer
         ≡ record { status = status_of outcome; report = text.now }) }
@@ -56,7 +56,7 @@ pub fn text_answer(alloc: Global, outcome: Outcome, text: &str) -> Result<Answer
     })
 }
 
-/// The answer to an input with a fault of form. Refused for want of memory alone.
+/// The answer to an input with a fault of form. Fails only with `NoMemory`.
 pub fn refused_answer(alloc: Global, fault: InputFault) -> Result<Answer, NoMemory>
     ensures { IfOk result (λ answer. answer_view answer ≡ refused_answer fault) }
 {
@@ -66,7 +66,7 @@ pub fn refused_answer(alloc: Global, fault: InputFault) -> Result<Answer, NoMemo
     })
 }
 
-/// The answer where a command was done: octets in hexadecimal. Refused for want of memory alone.
+/// The answer where a command was done: octets in hexadecimal. Fails only with `NoMemory`.
 pub fn octets_answer(alloc: Global, octets: &[u8]) -> Result<Answer, NoMemory>
     ensures { IfOk result (λ answer. answer_view answer ≡ done_answer (encode_lower octets.now)) }
 {
@@ -100,7 +100,7 @@ fn push_replies(report: &mut String, replies: &[Reply]) -> Result<(), NoMemory>
     Ok(())
 }
 
-/// The report of record data that was rebuilt. Refused for want of memory alone.
+/// The report of record data that was rebuilt. Fails only with `NoMemory`.
 pub fn done_report(alloc: Global, rebuilt: &Rebuilt) -> Result<String, NoMemory>
     ensures { IfOk result (λ report. string_bytes report
         ≡ reply_lines rebuilt.now.replies ++ line (encode_lower rebuilt.now.octets)) }

@@ -74,12 +74,12 @@ fn perform<S: Source, K: Sink>(
 ///
 /// 0: the command was done. 1: the words are no command, and nothing is read. 2: the input has a fault of form. 3: the
 /// input is well formed, and what it asks for can't be done. 4: a read failed, and nothing is written. 5: a write
-/// failed, and a front of the report is written. 6: want of memory, and nothing is written.
+/// failed, and a prefix of the report is written. 6: allocation failed, and nothing is written.
 ///
 /// The whole report is made before the first write. Want of memory may come wherever memory is taken, but never for
 /// words that are no command, nor where a device failed.
 pub fn run<S: Source, K: Sink>(alloc: Global, words: &[String], source: &mut S, sink: &mut K) -> u8
-    // The answer that is due is written, unless a fault or want of memory comes.
+    // The answer that is due is written, unless a fault or a failed allocation comes.
     ensures ends { Ends result
         (due (command_of words.now) (S.left source.old))
         (K.held sink.old) (K.held sink.new) }

@@ -60,7 +60,7 @@ fn scan_data(alloc: Global, rtype: Rtype, text: &[u8]) -> Result<ZoneRecordData,
     ZoneRecordData::scan(alloc, rtype, &mut scanner)
 }
 
-/// The answer of `scan` to an input. Refused for want of memory alone.
+/// The answer of `scan` to an input. Fails only with `NoMemory`.
 pub fn scan_answer(alloc: Global, rtype: Rtype, input: &[u8]) -> Result<Answer, NoMemory>
     ensures { IfOk result (λ answer. answer_view answer ≡ scan_answer rtype input.now) }
 {

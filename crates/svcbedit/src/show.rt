@@ -9,7 +9,7 @@ use rdata_union::AllRecordData;
 use std::alloc::Global;
 use wire_base::{NoMemory, ParseError, Parser, Rtype};
 
-/// The answer to octets that are to be data of a type. Refused for want of memory alone.
+/// The answer to octets that are to be data of a type. Fails only with `NoMemory`.
 fn octets_shown(alloc: Global, rtype: Rtype, octets: &[u8]) -> Result<Answer, NoMemory>
     ensures { IfOk result (λ answer. answer_view answer ≡ data_shown (data_in rtype octets.now)) }
 {
@@ -32,7 +32,7 @@ fn octets_shown(alloc: Global, rtype: Rtype, octets: &[u8]) -> Result<Answer, No
     }
 }
 
-/// The answer of `show` to an input. Refused for want of memory alone.
+/// The answer of `show` to an input. Fails only with `NoMemory`.
 pub fn show_answer(alloc: Global, rtype: Rtype, input: &[u8]) -> Result<Answer, NoMemory>
     ensures { IfOk result (λ answer. answer_view answer ≡ show_answer rtype input.now) }
 {

@@ -147,7 +147,8 @@ fn push_lines(alloc: Global, mut input: Lines<'_>) -> Result<Vec<AllValues>, Spe
     Ok(pushes)
 }
 
-/// Reads an input of `edit`. `Fault` is the first fault of form in it, and `NoMemory` want of memory for what it spells.
+/// Reads an input of `edit`. `Fault` is the first fault of form in it, and `NoMemory` a failed allocation for what it
+/// spells.
 pub fn read_spelling(alloc: Global, input: &[u8]) -> Result<Spelling, SpellError>
     requires { length input.now ≤ MAX_INPUT }
     ensures value { SpellsAs spelled_view result (spelling_of input.now) }
@@ -166,8 +167,8 @@ pub fn read_spelling(alloc: Global, input: &[u8]) -> Result<Spelling, SpellError
     })
 }
 
-/// Reads an input of `show`: the octets of its only line. `Fault` is the first fault of form in it, and `NoMemory` want of
-/// memory for the octets.
+/// Reads an input of `show`: the octets of its only line. `Fault` is the first fault of form in it, and `NoMemory`
+/// failed allocation for the octets.
 pub fn read_octets(alloc: Global, input: &[u8]) -> Result<Octets, SpellError>
     ensures { SpellsAs (λ octets. octets) result (spelled_octets input.now) }
 {

@@ -28,7 +28,7 @@ fn token_value(alloc: Global, line: &[u8]) -> Result<AllValues, ScanError>
     scan_param(alloc, octets.as_slice())
 }
 
-/// Reads the text of a parameter, as `port=53`, in an entry of one token. Refused for want of memory alone.
+/// Reads the text of a parameter, as `port=53`, in an entry of one token. Fails only with `NoMemory`.
 pub fn token_param(alloc: Global, line: &[u8]) -> Result<Option<AllValues>, NoMemory>
     ensures { IfOk result (λ push. option_map value_of push ≡ token_push line.now) }
 {

@@ -26,25 +26,25 @@ use Rattle.text_spec.proofs.Steps.{lexemes_of_symbols, entry-refuses, string-ref
 module _ (within : ℕ → Type 0) (ended : Type 0) (rest : List ℕ)
     (answer : Result (List Lexeme) ScanError)
     (here : (depth : ℕ) → within depth → lexemes_at (in_entry depth) 0 rest ≡ answer)
-        (there : ended → lexemes_at behind 0 rest ≡ answer) where
+    (there : ended → lexemes_at behind 0 rest ≡ answer) where
   tail_again : (pieces : List Piece) → IsTailRow ended rest pieces
       → lexemes_at behind 0 (flat_map piece_octets pieces ++ rest)
-          ≡ with_lexemes (flat_map lexemes_of pieces) answer
+      ≡ with_lexemes (flat_map lexemes_of pieces) answer
   tail_again [] row = there row ∙ sym (with_lexemes-nil answer)
   tail_again (Blank c ∷ pieces) row =
       let following = flat_map piece_octets pieces ++ rest in
       blank-read_behind c following row.0
-          ∙ one_more Gap (flat_map lexemes_of pieces) answer (lexemes_at behind 0 following)
-          (tail_again pieces row.1)
+      ∙ one_more Gap (flat_map lexemes_of pieces) answer (lexemes_at behind 0 following)
+      (tail_again pieces row.1)
   tail_again (LineEnd ∷ pieces) row =
       let following = flat_map piece_octets pieces ++ rest in
       line-read_behind following
-          ∙ one_more Gap (flat_map lexemes_of pieces) answer (lexemes_at behind 0 following)
-          (tail_again pieces row)
+      ∙ one_more Gap (flat_map lexemes_of pieces) answer (lexemes_at behind 0 following)
+      (tail_again pieces row)
   tail_again (Comment text ∷ pieces) row =
       let following = flat_map piece_octets pieces ++ rest in
       ap (λ left. lexemes_at behind 0 (59 ∷ left))
-          (append_assoc text (flat_map piece_octets pieces) rest)
+      (append_assoc text (flat_map piece_octets pieces) rest)
       ∙ comment-read_behind text following row.0
       ∙ one_more Gap (flat_map lexemes_of pieces) answer (lexemes_at behind 0 following)
       (tail_again pieces row.1)
@@ -55,52 +55,52 @@ module _ (within : ℕ → Type 0) (ended : Type 0) (rest : List ℕ)
 
   row_again : (depth : ℕ) (pieces : List Piece) → IsPieceRow within ended rest depth pieces
       → lexemes_at (in_entry depth) 0 (flat_map piece_octets pieces ++ rest)
-          ≡ with_lexemes (flat_map lexemes_of pieces) answer
+      ≡ with_lexemes (flat_map lexemes_of pieces) answer
   row_again depth [] row = here depth row ∙ sym (with_lexemes-nil answer)
   row_again depth (Blank c ∷ pieces) row =
       let following = flat_map piece_octets pieces ++ rest in
       blank-read depth c following row.0
-          ∙ one_more Gap (flat_map lexemes_of pieces) answer
-          (lexemes_at (in_entry depth) 0 following) (row_again depth pieces row.1)
+      ∙ one_more Gap (flat_map lexemes_of pieces) answer
+      (lexemes_at (in_entry depth) 0 following) (row_again depth pieces row.1)
   row_again zero (LineEnd ∷ pieces) row =
       let following = flat_map piece_octets pieces ++ rest in
       line-read following
-          ∙ one_more Gap (flat_map lexemes_of pieces) answer (lexemes_at behind 0 following)
-          (tail_again pieces row)
+      ∙ one_more Gap (flat_map lexemes_of pieces) answer (lexemes_at behind 0 following)
+      (tail_again pieces row)
   row_again (suc depth) (LineEnd ∷ pieces) row =
       let following = flat_map piece_octets pieces ++ rest in
       line-read_within depth following
-          ∙ one_more Gap (flat_map lexemes_of pieces) answer
-          (lexemes_at (in_entry (suc depth)) 0 following) (row_again (suc depth) pieces row)
+      ∙ one_more Gap (flat_map lexemes_of pieces) answer
+      (lexemes_at (in_entry (suc depth)) 0 following) (row_again (suc depth) pieces row)
   row_again depth (Comment text ∷ pieces) row =
       let following = flat_map piece_octets pieces ++ rest in
       ap (λ left. lexemes_at (in_entry depth) 0 (59 ∷ left))
-          (append_assoc text (flat_map piece_octets pieces) rest)
+      (append_assoc text (flat_map piece_octets pieces) rest)
       ∙ comment-read depth text following row.0
       ∙ one_more Gap (flat_map lexemes_of pieces) answer (lexemes_at (in_entry depth) 0 following)
       (row_again depth pieces row.1)
   row_again depth (Opening ∷ pieces) row =
       let following = flat_map piece_octets pieces ++ rest in
       opening-read depth following
-          ∙ one_more Gap (flat_map lexemes_of pieces) answer
-          (lexemes_at (in_entry (suc depth)) 0 following) (row_again (suc depth) pieces row)
+      ∙ one_more Gap (flat_map lexemes_of pieces) answer
+      (lexemes_at (in_entry (suc depth)) 0 following) (row_again (suc depth) pieces row)
   row_again zero (Closing ∷ pieces) row = absurd row
   row_again (suc depth) (Closing ∷ pieces) row =
       let following = flat_map piece_octets pieces ++ rest in
       closing-read depth following
-          ∙ one_more Gap (flat_map lexemes_of pieces) answer
-          (lexemes_at (in_entry depth) 0 following) (row_again depth pieces row)
+      ∙ one_more Gap (flat_map lexemes_of pieces) answer
+      (lexemes_at (in_entry depth) 0 following) (row_again depth pieces row)
   row_again depth (Bare symbol ∷ pieces) row =
       let following = flat_map piece_octets pieces ++ rest in
       ap (lexemes_at (in_entry depth) 0)
-          (append_assoc (piece_octets (Bare symbol)) (flat_map piece_octets pieces) rest)
+      (append_assoc (piece_octets (Bare symbol)) (flat_map piece_octets pieces) rest)
       ∙ bare-read depth symbol following row.0
       ∙ one_more (Octet (symbol_of symbol)) (flat_map lexemes_of pieces) answer
       (lexemes_at (in_entry depth) 0 following) (row_again depth pieces row.1)
   row_again depth (Quoted symbols ∷ pieces) row =
       let following = flat_map piece_octets pieces ++ rest in
       ap (lexemes_at (in_entry depth) 0)
-          (append_assoc (piece_octets (Quoted symbols)) (flat_map piece_octets pieces) rest)
+      (append_assoc (piece_octets (Quoted symbols)) (flat_map piece_octets pieces) rest)
       ∙ string-read depth symbols following row.0
       ∙ ap (with_lexemes (lexemes_of (Quoted symbols))) (row_again depth pieces row.1)
       ∙ sym (with_lexemes-append (lexemes_of (Quoted symbols)) (flat_map lexemes_of pieces) answer)
@@ -112,7 +112,7 @@ entry_again depth pieces row =
     ap (lexemes_at (in_entry depth) 0) (sym (append-nil (flat_map piece_octets pieces)))
     ∙ row_again (λ open_brackets. open_brackets ≡ 0) (Unit {0}) [] (Ok [])
     (λ depth' none. lexemes_at-end (in_entry depth') [] refl ∙ ap (λ n. end_at (in_entry n)) none)
-        (λ _. lexemes_at-end behind [] refl) depth pieces row
+    (λ _. lexemes_at-end behind [] refl) depth pieces row
     ∙ ap Ok (append-nil (flat_map lexemes_of pieces))
 
 pub has_tokens : (text : List ℕ) (tokens : List (List Symbol)) → HasTokens text tokens
@@ -130,8 +130,8 @@ escape-refused : (place : Place) (rest : List ℕ) → NoEscape rest
     → symbol_step place 92 rest ≡ Err BadEscape
 escape-refused place rest none =
     ap (λ o. option_map_or
-        (λ e. front_of (Octet (record { octet = e.0; escaped = true })) place e.1) o
-        (Err BadEscape)) (escape_of-none rest none)
+    (λ e. front_of (Octet (record { octet = e.0; escaped = true })) place e.1) o
+    (Err BadEscape)) (escape_of-none rest none)
 
 stray-refused : (place : Place) (c : ℕ) (rest : List ℕ) → is_stray c ≡ true
     → open_step place c rest ≡ Err BadSymbol
@@ -150,16 +150,16 @@ entry_refused : (rest : List ℕ) (fault : ScanError) (depth : ℕ) → FaultAt 
     → lexemes_at (in_entry depth) 0 rest ≡ Err fault
 entry_refused [] BadBracket depth has =
     lexemes_at-end (in_entry depth) [] refl
-        ∙ ap (λ none. cond none (Ok []) (Err BadBracket)) (not_zero depth has)
+    ∙ ap (λ none. cond none (Ok []) (Err BadBracket)) (not_zero depth has)
 entry_refused (c ∷ rest) BadBracket depth has =
     ap (λ k. lexemes_at (in_entry depth) 0 (k ∷ rest)) has.0
-        ∙ ap (λ n. lexemes_at (in_entry n) 0 (41 ∷ rest)) has.1
+    ∙ ap (λ n. lexemes_at (in_entry n) 0 (41 ∷ rest)) has.1
     ∙ entry-refuses 0 41 rest BadBracket refl
 entry_refused (c ∷ rest) BadSymbol depth has =
     entry-refuses depth c rest BadSymbol (stray-refused (in_entry depth) c rest has)
 entry_refused (c ∷ rest) BadEscape depth has =
     ap (λ k. lexemes_at (in_entry depth) 0 (k ∷ rest)) has.0
-        ∙ entry-refuses depth 92 rest BadEscape (escape-refused (in_entry depth) rest has.1)
+    ∙ entry-refuses depth 92 rest BadEscape (escape-refused (in_entry depth) rest has.1)
 entry_refused rest fault depth has = absurd has
 
 behind_refused : (rest : List ℕ) (fault : ScanError) → FaultAfter rest fault
@@ -175,14 +175,14 @@ string_refused (c ∷ rest) BadSymbol depth has =
     string-refuses depth c rest BadSymbol (stray-refused_in_string (in_string depth) c rest has)
 string_refused (c ∷ rest) BadEscape depth has =
     ap (λ k. lexemes_at (in_string depth) 0 (k ∷ rest)) has.0
-        ∙ string-refuses depth 92 rest BadEscape (escape-refused (in_string depth) rest has.1)
+    ∙ string-refuses depth 92 rest BadEscape (escape-refused (in_string depth) rest has.1)
 string_refused rest fault depth has = absurd has
 
 -- a string that is not closed is refused
 unclosed_refused : (depth : ℕ) (symbols : List Written) (after : List ℕ) (fault : ScanError)
     → AllByRecursion (IsSymbol is_quotable) symbols
     → FaultInQuotes after fault
-        → lexemes_at (in_entry depth) 0 (34 ∷ flat_map octet_text symbols ++ after) ≡ Err fault
+    → lexemes_at (in_entry depth) 0 (34 ∷ flat_map octet_text symbols ++ after) ≡ Err fault
 unclosed_refused depth symbols after fault quotable has =
     quote-begins depth (flat_map octet_text symbols ++ after)
     ∙ ap (with_front Quote)
@@ -201,7 +201,7 @@ fault_again depth text fault
     ap (lexemes_at (in_entry depth) 0) is
     ∙ row_again (λ _. Unit {0}) ⊥ rest (Err fault)
     (λ depth' _. ap (lexemes_at (in_entry depth') 0) unclosed
-        ∙ unclosed_refused depth' symbols after fault quotable has)
+    ∙ unclosed_refused depth' symbols after fault quotable has)
     (λ impossible. absurd impossible) depth pieces row
 
 pub has_fault : (text : List ℕ) (fault : ScanError) → HasFault 0 text fault

@@ -63,27 +63,27 @@ symbol_value : (table text : List ℕ) (i : ℕ) → IsDecodeTable table → Are
     → get_or table (get_or text i 0) 0 < 64
 symbol_value table text i decodes octets none =
     elim (decodes (get_or text i 0) (octet_at text octets i)) [
-  | inl bad ↦ absurd (cc (rw bad at none))
-  | inr small ↦ small
-]
+      | inl bad ↦ absurd (cc (rw bad at none))
+      | inr small ↦ small
+    ]
 
 whole_group : (table text : List ℕ) (i : ℕ) → IsDecodeTable table → AreOctets text
     → group_error table text i ≡ None
     → AreOctets (group_bytes table text i)
 whole_group table text i decodes octets none =
     let first = or_else_none (symbol_error table text i)
-        (or_else (symbol_error table text (i + 1))
-        (or_else (symbol_error table text (i + 2)) (symbol_error table text (i + 3)))) none in
+    (or_else (symbol_error table text (i + 1))
+    (or_else (symbol_error table text (i + 2)) (symbol_error table text (i + 3)))) none in
     let second = or_else_none (symbol_error table text (i + 1))
-        (or_else (symbol_error table text (i + 2)) (symbol_error table text (i + 3))) first.1 in
+    (or_else (symbol_error table text (i + 2)) (symbol_error table text (i + 3))) first.1 in
     let third = or_else_none (symbol_error table text (i + 2))
-        (symbol_error table text (i + 3)) second.1 in
+    (symbol_error table text (i + 3)) second.1 in
     group_octets (get_or table (get_or text i 0) 0) (get_or table (get_or text (i + 1) 0) 0)
-        (get_or table (get_or text (i + 2) 0) 0) (get_or table (get_or text (i + 3) 0) 0)
+    (get_or table (get_or text (i + 2) 0) 0) (get_or table (get_or text (i + 3) 0) 0)
     (symbol_value table text i decodes octets first.0)
-        (symbol_value table text (i + 1) decodes octets second.0)
+    (symbol_value table text (i + 1) decodes octets second.0)
     (symbol_value table text (i + 2) decodes octets third.0)
-        (symbol_value table text (i + 3) decodes octets third.1)
+    (symbol_value table text (i + 3) decodes octets third.1)
 
 whole_groups : (table text : List ℕ) (count : ℕ) → IsDecodeTable table → AreOctets text
     → groups_error table text count ≡ None
@@ -92,21 +92,21 @@ unfolding groups_error groups_bytes
 whole_groups table text zero decodes octets none = tt
 whole_groups table text (suc count) decodes octets none =
     let both = or_else_none (groups_error table text count) (group_error table text (4 * count))
-        none in
+    none in
     AreOctets-append (groups_bytes table text count) (group_bytes table text (4 * count))
     (whole_groups table text count decodes octets both.0)
-        (whole_group table text (4 * count) decodes octets both.1)
+    (whole_group table text (4 * count) decodes octets both.1)
 
 -- what the scan of the last group keeps
 kept_by_step : (table : List ℕ) (pad at : ℕ) (st : _) (i c : ℕ) (text : List ℕ)
     → IsDecodeTable table → IsLeftover st i → c < 256
     → ((next : _) → IsLeftover next (i + 1) → (end : _)
-        → scan table pad at next (i + 1) text ≡ Ok end → (j : ℕ) × IsLeftover end j)
+    → scan table pad at next (i + 1) text ≡ Ok end → (j : ℕ) × IsLeftover end j)
     → (step : Result _ DecodeError) → push_leftover table pad at st i c ≡ step
     → (end : _) → scan table pad at st i (c ∷ text) ≡ Ok end → (j : ℕ) × IsLeftover end j
 kept_by_step table pad at st i c text decodes held octet on (Ok next) is end e =
     on next (IsLeftover_next table pad at st i c next decodes held octet is) end
-        (sym (scan-cons_ok table pad at st i c text next is) ∙ e)
+    (sym (scan-cons_ok table pad at st i c text next is) ∙ e)
 kept_by_step table pad at st i c text decodes held octet on (Err fault) is end e =
     let refused = sym (scan-cons_err table pad at st i c text fault is) ∙ e in
     absurd cc
@@ -119,16 +119,16 @@ kept_by_scan table pad at st i [] decodes held octets end e =
     (i, subst (λ s. IsLeftover s i) same held)
 kept_by_scan table pad at st i (c ∷ text) decodes held octets end e =
     kept_by_step table pad at st i c text decodes held octets.0
-        (λ next kept. kept_by_scan table pad at next (i + 1) text decodes kept octets.1)
+    (λ next kept. kept_by_scan table pad at next (i + 1) text decodes kept octets.1)
     (push_leftover table pad at st i c) refl end e
 
 leftover_octets : (st : _) (i : ℕ) → IsLeftover st i → AreOctets (leftover_bytes st)
 leftover_octets st i held =
     AreOctets-take (st.morsels_count * 6 / 8)
-        (decode_group (get_or st.morsels 0 0) (get_or st.morsels 1 0) (get_or st.morsels 2 0)
-        (get_or st.morsels 3 0))
+    (decode_group (get_or st.morsels 0 0) (get_or st.morsels 1 0) (get_or st.morsels 2 0)
+    (get_or st.morsels 3 0))
     (group_octets (get_or st.morsels 0 0) (get_or st.morsels 1 0) (get_or st.morsels 2 0)
-        (get_or st.morsels 3 0) (held.3 0) (held.3 1) (held.3 2) (held.3 3))
+    (get_or st.morsels 3 0) (held.3 0) (held.3 1) (held.3 2) (held.3 3))
 
 zero_morsels : (k : ℕ) → get_or (0 ∷ 0 ∷ 0 ∷ 0 ∷ []) k 0 < 64
 zero_morsels zero = omega arith
@@ -141,24 +141,24 @@ zero_morsels (suc (suc (suc (suc k)))) = omega arith
 scanned_octets : (table : List ℕ) (pad at : ℕ) (text : List ℕ) → IsDecodeTable table
     → AreOctets text
     → (answer : Result _ DecodeError) → scan_last table pad at text ≡ answer
-        → AreOctets (scan_bytes answer)
+    → AreOctets (scan_bytes answer)
 scanned_octets table pad at text decodes octets (Ok st) is =
     let kept = kept_by_scan table pad at no_leftover 0 (drop at text) decodes
-        (omega arith, omega arith, omega arith, zero_morsels) (AreOctets-drop at text octets) st is
-        in
+    (omega arith, omega arith, omega arith, zero_morsels) (AreOctets-drop at text octets) st is
+    in
     leftover_octets st kept.0 kept.1
 scanned_octets table pad at text decodes octets (Err fault) is = tt
 
 pub decoded_octets : (table : List ℕ) (pad : ℕ) (text : List ℕ) → IsDecodeTable table
     → AreOctets text
     → groups_error table text (groups_before_last (length text)) ≡ None
-        → AreOctets (decoded_bytes table pad text)
+    → AreOctets (decoded_bytes table pad text)
 decoded_octets table pad text decodes octets none =
     let count = groups_before_last (length text) in
     AreOctets-append (groups_bytes table text count) (suffix_bytes table pad (4 * count) text)
     (whole_groups table text count decodes octets none)
     (scanned_octets table pad (4 * count) text decodes octets
-        (scan_last table pad (4 * count) text) refl)
+    (scan_last table pad (4 * count) text) refl)
 
 -- what decoded without an error
 outcome_ok : (error : Option DecodeError) (bytes octets : List ℕ)
@@ -170,7 +170,7 @@ standard_decodes : IsDecodeTable standard.decode_table
 standard_decodes =
     IsDecodeTable_from standard.encode_table standard.decode_table
     (are_tables_inverse standard.encode_table standard.decode_table standard.padding.value
-        standard.tables)
+    standard.tables)
 
 standard_strict : IsStrict standard
 standard_strict = (refl, refl)
@@ -185,12 +185,12 @@ AreOctets-base64_of text octets bytes e =
     let allow = standard.config.decode_allow_trailing_bits in
     let mode = standard.config.decode_padding_mode in
     let decoded = outcome_ok (decode_error table pad allow mode text)
-        (decoded_bytes table pad text) octets (read_ok (decode_of standard text) octets e) in
+    (decoded_bytes table pad text) octets (read_ok (decode_of standard text) octets e) in
     let rest = or_else_none (lone_error table pad text)
-        (or_else (groups_error table text count)
-        (suffix_error table pad allow mode (4 * count) text)) decoded.0 in
+    (or_else (groups_error table text count)
+    (suffix_error table pad allow mode (4 * count) text)) decoded.0 in
     let groups = or_else_none (groups_error table text count)
-        (suffix_error table pad allow mode (4 * count) text) rest.1 in
+    (suffix_error table pad allow mode (4 * count) text) rest.1 in
     subst AreOctets decoded.1 (decoded_octets table pad text standard_decodes bytes groups.0)
 
 -- ---- base64
@@ -200,7 +200,7 @@ pub base64_spelled : (text octets : List ℕ) → AreOctets text → base64_of t
     → text ≡ base64_text octets
 base64_spelled text octets bytes e =
     decode_of_strict standard text octets standard_strict (octet_at text bytes)
-        (read_ok (decode_of standard text) octets e)
+    (read_ok (decode_of standard text) octets e)
 
 -- octets are read back from their base64 text
 pub base64_again : (octets : List ℕ) → AreOctets octets

@@ -33,12 +33,12 @@ digits_back : (a b c : ℕ)
     → (is_ascii_digit a && is_ascii_digit b && is_ascii_digit c && nat_le (three_digits a b c) 255)
     ≡ true
     → (48 + three_digits a b c / 100 ≡ a) × (48 + three_digits a b c / 10 % 10 ≡ b)
-        × (48 + three_digits a b c % 10 ≡ c) × (three_digits a b c < 256)
+    × (48 + three_digits a b c % 10 ≡ c) × (three_digits a b c < 256)
 digits_back a b c digits = grind (arith, nat_tests)
 
 are_digits : (a b c : ℕ) (rest : List ℕ) (e : ℕ × ℕ) → decimal_of (a ∷ b ∷ c ∷ rest) ≡ Some e
     → (is_ascii_digit a && is_ascii_digit b && is_ascii_digit c && nat_le (three_digits a b c) 255)
-        ≡ true
+    ≡ true
 are_digits a b c rest e is = grind (arith, nat_tests)
 
 decimal_found : (a : ℕ) (rest : List ℕ) (e : ℕ × ℕ) → decimal_of (a ∷ rest) ≡ Some e

@@ -56,9 +56,9 @@ comment_cut (c ∷ rest) =
     let in_line : ℕ → Bool = λ k. not (k == 10) in
     let Cut : ℕ → Type 0 = λ n. IsComment (take n (c ∷ rest)) (drop n (c ∷ rest)) in
     let len : (b : Bool) → in_line c ≡ b
-        → line_len (c ∷ rest) ≡ length (cond b (c ∷ take_while in_line rest) []) =
+    → line_len (c ∷ rest) ≡ length (cond b (c ∷ take_while in_line rest) []) =
     λ b is. ap length (take_while-cons in_line c rest)
-        ∙ ap (λ more. length (cond more (c ∷ take_while in_line rest) [])) is in
+    ∙ ap (λ more. length (cond more (c ∷ take_while in_line rest) [])) is in
     let cut = comment_cut rest in
     by_test (in_line c)
     (λ more. subst Cut (sym (len true more)) ((more, cut.0), cut.1))
@@ -91,14 +91,18 @@ tail_of (suc n) (c ∷ rest) within =
     let (pieces, left, is, row) = tail_of n rest (omega arith) in
     (Blank c ∷ pieces, left, spelled_on (Blank c) pieces rest left is, (blank, row))) (λ not_blank.
     by_test (c == 10) (λ line.
-    let (pieces, left, is, row) = tail_of n rest (omega arith) in
-    (LineEnd ∷ pieces, left, ap (λ k. k ∷ rest) (eqb_is c 10 line)
-        ∙ spelled_on LineEnd pieces rest left is, row)) (λ not_line.
+    let (pieces, left, is, row) = tail_of n rest (omega arith) in (
+      LineEnd ∷ pieces,
+      left,
+      ap (λ k. k ∷ rest) (eqb_is c 10 line)
+          ∙ spelled_on LineEnd pieces rest left is,
+      row,
+    )) (λ not_line.
     by_test (c == 59) (λ semicolon.
     let text = take (line_len rest) rest in
     let following = drop (line_len rest) rest in
     let (pieces, left, is, row) =
-        tail_of n following (omega (arith, length-drop (line_len rest) rest)) in (
+    tail_of n following (omega (arith, length-drop (line_len rest) rest)) in (
       Comment text ∷ pieces,
       left,
       ap (λ k. k ∷ rest) (eqb_is c 59 semicolon) ∙ comment_text rest
@@ -122,10 +126,14 @@ String text = (symbols : List Written) × (rest : List ℕ)
 -- one symbol more in front
 symbol_on : (symbol : Written) (text : List ℕ) → IsSymbol is_quotable symbol → String text
     → String (octet_text symbol ++ text)
-symbol_on symbol text quotable (symbols, rest, is, all_quotable, ends) =
-    (symbol ∷ symbols, rest, ap (λ left. octet_text symbol ++ left) is
-        ∙ sym (append_assoc (octet_text symbol) (flat_map octet_text symbols) rest),
-        (quotable, all_quotable), ends)
+symbol_on symbol text quotable (symbols, rest, is, all_quotable, ends) = (
+  symbol ∷ symbols,
+  rest,
+  ap (λ left. octet_text symbol ++ left) is
+      ∙ sym (append_assoc (octet_text symbol) (flat_map octet_text symbols) rest),
+  (quotable, all_quotable),
+  ends,
+)
 
 quotable : (c : ℕ) → (c == 34) ≡ false → is_stray_in_quotes c ≡ false → (c == 92) ≡ false
     → is_quotable c ≡ true
@@ -136,21 +144,21 @@ string_of n [] within = ([], [], refl, tt, inr (OpenQuote, tt))
 string_of zero (c ∷ rest) within = absurd (omega arith)
 string_of (suc n) (c ∷ rest) within =
     by_test (c == 34)
-        (λ quote. ([], c ∷ rest, refl, tt, inl (rest, ap (λ k. k ∷ rest) (eqb_is c 34 quote))))
-        (λ no_quote.
+    (λ quote. ([], c ∷ rest, refl, tt, inl (rest, ap (λ k. k ∷ rest) (eqb_is c 34 quote))))
+    (λ no_quote.
     by_test (is_stray_in_quotes c) (λ stray. ([], c ∷ rest, refl, tt, inr (BadSymbol, stray)))
-        (λ not_stray.
+    (λ not_stray.
     by_test (c == 92) (λ backslash.
     let same = eqb_is c 92 backslash in
     elim (escape_or_none rest) [
       | inl (symbol, more, is_symbol, is) ↦
           subst String (sym (ap (λ k. k ∷ rest) same ∙ is))
           (symbol_on symbol more (escape_is_symbol is_quotable symbol is_symbol)
-              (string_of n more (omega (arith, behind_escape rest more symbol is))))
+          (string_of n more (omega (arith, behind_escape rest more symbol is))))
       | inr none ↦ ([], c ∷ rest, refl, tt, inr (BadEscape, (same, none)))
     ]) (λ no_backslash.
     symbol_on (Plain c) rest (quotable c no_quote not_stray no_backslash)
-        (string_of n rest (omega arith)))))
+    (string_of n rest (omega arith)))))
 
 -- ---- in the entry
 
@@ -165,7 +173,7 @@ EndsSo Complete rest = rest ≡ []
 EndsSo (Faulty fault) rest = Unit {0}
 EndsSo (Unclosed symbols after fault) rest =
     (rest ≡ 34 ∷ flat_map octet_text symbols ++ after)
-        × AllByRecursion (IsSymbol is_quotable) symbols × FaultInQuotes after fault
+    × AllByRecursion (IsSymbol is_quotable) symbols × FaultInQuotes after fault
 
 abbrev EndsWithin : Ending → List ℕ → ℕ → Type 0
 EndsWithin Complete rest depth = depth ≡ 0
@@ -204,9 +212,17 @@ kind_of c =
     by_test (c == 34) (λ is. IsQuote (eqb_is c 34 is)) (λ no_quote.
     by_test (c == 92) (λ is. IsBackslash (eqb_is c 92 is)) (λ no_backslash.
     by_test (is_control c) (λ control. IsStray (rw (control, not_blank, not_line) refl))
-        (λ no_control.
-    IsBare (rw (not_blank, not_line, not_semicolon, not_opening, not_closing, no_quote,
-        no_backslash, no_control) refl)))))))))
+    (λ no_control.
+    IsBare (rw (
+      not_blank,
+      not_line,
+      not_semicolon,
+      not_opening,
+      not_closing,
+      no_quote,
+      no_backslash,
+      no_control,
+    ) refl)))))))))
 
 -- what is left behind the front is such a row
 abbrev Shorter : List ℕ → Type 0
@@ -216,9 +232,15 @@ Shorter rest = (depth : ℕ) (text : List ℕ) → length text ≤ length rest �
 tail_row : (rest : List ℕ) → Tail rest → Row 0 (10 ∷ rest)
 tail_row rest (pieces, [], is, row) =
     (Complete, LineEnd ∷ pieces, [], spelled_on LineEnd pieces rest [] is, refl, row)
-tail_row rest (pieces, c ∷ left, is, row) =
-    (Faulty TrailingTokens, LineEnd ∷ pieces, c ∷ left, spelled_on LineEnd pieces rest
-    (c ∷ left) is, tt, row)
+tail_row rest (pieces, c ∷ left, is, row) = (
+  Faulty TrailingTokens,
+  LineEnd ∷ pieces,
+  c ∷ left,
+  spelled_on LineEnd pieces rest
+      (c ∷ left) is,
+  tt,
+  row,
+)
 
 line_row : (depth : ℕ) (rest : List ℕ) → Shorter rest → Row depth (10 ∷ rest)
 line_row zero rest shorter = tail_row rest (tail_of (length rest) rest (omega arith))
@@ -231,7 +253,7 @@ comment_row depth rest shorter =
     let text = take (line_len rest) rest in
     let following = drop (line_len rest) rest in
     let (ending, pieces, left, is, ends, row) =
-        shorter depth following (omega (arith, length-drop (line_len rest) rest)) in (
+    shorter depth following (omega (arith, length-drop (line_len rest) rest)) in (
       ending,
       Comment text ∷ pieces,
       left,
@@ -256,24 +278,41 @@ string_text symbols following =
 string_row : (depth : ℕ) (rest : List ℕ) → Shorter rest → String rest → Row depth (34 ∷ rest)
 string_row depth rest shorter (symbols, left, is, all_quotable, inl (following, closes)) =
     let text = ap (λ end. 34 ∷ end) (is ∙ ap (λ end. flat_map octet_text symbols ++ end) closes)
-        ∙ string_text symbols following in
+    ∙ string_text symbols following in
     let (ending, pieces, last, follows, ends, row) =
-        shorter depth following
-        (omega (arith, ap length text, length-append (piece_octets (Quoted symbols)) following)) in
-    (ending, Quoted symbols ∷ pieces, last, text
-        ∙ spelled_on (Quoted symbols) pieces following last follows, ends, (all_quotable, row))
-string_row depth rest shorter (symbols, left, is, all_quotable, inr (fault, has)) =
-    (Unclosed symbols left fault, [], 34
-        ∷ rest, refl, (ap (λ end. 34 ∷ end) is, all_quotable, has), tt)
+    shorter depth following
+    (omega (arith, ap length text, length-append (piece_octets (Quoted symbols)) following)) in (
+      ending,
+      Quoted symbols ∷ pieces,
+      last,
+      text
+          ∙ spelled_on (Quoted symbols) pieces following last follows,
+      ends,
+      (all_quotable, row),
+    )
+string_row depth rest shorter (symbols, left, is, all_quotable, inr (fault, has)) = (
+  Unclosed symbols left fault,
+  [],
+  34
+      ∷ rest,
+  refl,
+  (ap (λ end. 34 ∷ end) is, all_quotable, has),
+  tt,
+)
 
 backslash_row : (depth : ℕ) (rest : List ℕ) → Shorter rest → Row depth (92 ∷ rest)
 backslash_row depth rest shorter = elim (escape_or_none rest) [
   | inl (symbol, more, is_symbol, is) ↦
       let (ending, pieces, left, is', ends, row) =
-          shorter depth more (behind_escape rest more symbol is) in
-      (ending, Bare symbol ∷ pieces, left, is
-          ∙ spelled_on (Bare symbol) pieces more left is', ends,
-          (escape_is_symbol is_bare symbol is_symbol, row))
+      shorter depth more (behind_escape rest more symbol is) in (
+        ending,
+        Bare symbol ∷ pieces,
+        left,
+        is
+            ∙ spelled_on (Bare symbol) pieces more left is',
+        ends,
+        (escape_is_symbol is_bare symbol is_symbol, row),
+      )
   | inr none ↦ (Faulty BadEscape, [], 92 ∷ rest, refl, tt, (refl, none))
 ]
 
@@ -286,9 +325,15 @@ front_row depth c rest shorter (IsLineEnd same) =
 front_row depth c rest shorter (IsSemicolon same) =
     subst (λ k. Row depth (k ∷ rest)) (sym same) (comment_row depth rest shorter)
 front_row depth c rest shorter (IsOpening same) =
-    let (ending, pieces, left, is, ends, row) = shorter (suc depth) rest (omega arith) in
-    (ending, Opening ∷ pieces, left, ap (λ k. k ∷ rest) same
-        ∙ spelled_on Opening pieces rest left is, ends, row)
+    let (ending, pieces, left, is, ends, row) = shorter (suc depth) rest (omega arith) in (
+      ending,
+      Opening ∷ pieces,
+      left,
+      ap (λ k. k ∷ rest) same
+          ∙ spelled_on Opening pieces rest left is,
+      ends,
+      row,
+    )
 front_row depth c rest shorter (IsClosing same) =
     subst (λ k. Row depth (k ∷ rest)) (sym same) (closing_row depth rest shorter)
 front_row depth c rest shorter (IsQuote same) =
@@ -298,9 +343,14 @@ front_row depth c rest shorter (IsBackslash same) =
     subst (λ k. Row depth (k ∷ rest)) (sym same) (backslash_row depth rest shorter)
 front_row depth c rest shorter (IsStray stray) = (Faulty BadSymbol, [], c ∷ rest, refl, tt, stray)
 front_row depth c rest shorter (IsBare bare) =
-    let (ending, pieces, left, is, ends, row) = shorter depth rest (omega arith) in
-    (ending, Bare (Plain c) ∷ pieces, left, spelled_on (Bare (Plain c)) pieces rest left is, ends,
-        (bare, row))
+    let (ending, pieces, left, is, ends, row) = shorter depth rest (omega arith) in (
+      ending,
+      Bare (Plain c) ∷ pieces,
+      left,
+      spelled_on (Bare (Plain c)) pieces rest left is,
+      ends,
+      (bare, row),
+    )
 
 row_of : (n : ℕ) (text : List ℕ) → length text ≤ n → (depth : ℕ) → Row depth text
 row_of n [] within zero = (Complete, [], [], refl, refl, refl)

@@ -39,7 +39,7 @@ pub AreLabels-are_labels : (octets : ℕ) (labels : List (List ℕ)) → are_lab
 AreLabels-are_labels octets [] h = tt
 AreLabels-are_labels octets (label ∷ labels) h =
     let tested = label_tested octets (length label) (are_labels (octets + length label + 1) labels)
-        h in
+    h in
     (tested.0, tested.1, tested.2, AreLabels-are_labels (octets + length label + 1) labels tested.3)
 
 -- ---- dots
@@ -57,7 +57,7 @@ name_written labels = flat_map (λ label. label_written label ++ dot ∷ []) lab
 -- a label's own dots are escaped
 dot_escaped : (c : ℕ) (special visible : Bool) → (special ≡ false → (c == 46) ≡ false)
     → is_bare_octet 46 (symbol_of (cond special (Escaped c) (cond visible (Plain c) (Decimal c))))
-        ≡ false
+    ≡ false
 dot_escaped c true visible h = refl
 dot_escaped c false true h = h refl
 dot_escaped c false false h = refl
@@ -68,7 +68,7 @@ not_dot c = dot_escaped c (is_special_in_name c) (is_visible c) (λ s. grind (ar
 
 parts-label : (label : List ℕ) (rest : List Written)
     → dotted_parts (map symbol_of (label_written label ++ dot ∷ rest))
-        ≡ label ∷ dotted_parts (map symbol_of rest)
+    ≡ label ∷ dotted_parts (map symbol_of rest)
 parts-label [] rest = refl
 parts-label (c ∷ label) rest =
     rw (not_dot c, octet-printed is_special_in_name c, parts-label label rest) refl
@@ -79,7 +79,7 @@ pub parts-name : (labels : List (List ℕ)) → dotted_parts (map symbol_of (nam
 parts-name [] = refl
 parts-name (label ∷ labels) =
     ap (λ (t : List Written). dotted_parts (map symbol_of t))
-        (append_assoc (label_written label) (dot ∷ []) (name_written labels))
+    (append_assoc (label_written label) (dot ∷ []) (name_written labels))
     ∙ parts-label label (name_written labels)
     ∙ ap (λ (parts : List (List ℕ)). label ∷ parts) (parts-name labels)
 
@@ -116,7 +116,7 @@ name_of-symbols (c ∷ label) labels h =
     let token = map symbol_of (name_written ((c ∷ label) ∷ labels)) in
     let lone : (octet : ℕ) → is_lone octet token ≡ false = λ octet.
     ap (λ (t : List Written). is_lone octet (map symbol_of t))
-        (append_assoc (label_written (c ∷ label)) (dot ∷ []) (name_written labels))
+    (append_assoc (label_written (c ∷ label)) (dot ∷ []) (name_written labels))
     ∙ lone_not octet c label (name_written labels) in
     name_by_parts token (lone 46) (lone 64)
     ∙ ap (λ (parts : List (List ℕ)). if_labels (without_final_dot parts))
@@ -134,7 +134,7 @@ written-name (label ∷ labels) =
     flat_map-append octet_text (label_written label ++ dot ∷ []) (name_written labels)
     ∙ ap (λ (t : List ℕ). t ++ flat_map octet_text (name_written labels))
     (flat_map-append octet_text (label_written label) (dot ∷ [])
-        ∙ ap (λ (t : List ℕ). t ++ 46 ∷ []) (written-printed is_special_in_name label))
+    ∙ ap (λ (t : List ℕ). t ++ 46 ∷ []) (written-printed is_special_in_name label))
     ∙ ap (λ (t : List ℕ). (printed_label label ++ 46 ∷ []) ++ t) (written-name labels)
 
 octets_front : (front behind : List ℕ) → AreOctets (front ++ behind) → AreOctets front
@@ -151,7 +151,7 @@ AreBare-name (label ∷ labels) h =
     let octets = octets_front label (flat_map (λ l. l) labels) h in
     AreBare-append (label_written label ++ dot ∷ []) (name_written labels)
     (AreBare-append (label_written label) (dot ∷ []) (AreBare-printed_in_name label octets.0)
-        (refl, tt))
+    (refl, tt))
     (AreBare-name labels octets.1)
 
 -- bare symbols that aren't none are wholly a token
@@ -164,13 +164,16 @@ token_text-symbols (symbol ∷ symbols) some h = token_text-bare symbol symbols 
 pub name_again : (labels : List (List ℕ)) → AreLabels 0 labels
     → AreOctets (flat_map (λ label. label) labels)
     → (token : List Symbol) × IsTokenText (printed_name_with_dot labels) token
-        × (name_of token ≡ Some labels)
+    × (name_of token ≡ Some labels)
 name_again [] h octets = (map symbol_of (dot ∷ []), token_text-bare dot [] (refl, tt), refl)
 name_again (label ∷ labels) h octets =
     let symbols = name_written (label ∷ labels) in
     let some : 0 < length symbols =
-        rw (append_assoc (label_written label) (dot ∷ []) (name_written labels))
-        (omega (arith, length-append (label_written label) (dot ∷ name_written labels))) in
-    (map symbol_of symbols, rw (← written-name (label ∷ labels))
-        (token_text-symbols symbols some (AreBare-name (label ∷ labels) octets)), name_of-symbols
-        label labels h)
+    rw (append_assoc (label_written label) (dot ∷ []) (name_written labels))
+    (omega (arith, length-append (label_written label) (dot ∷ name_written labels))) in (
+      map symbol_of symbols,
+      rw (← written-name (label ∷ labels))
+          (token_text-symbols symbols some (AreBare-name (label ∷ labels) octets)),
+      name_of-symbols
+          label labels h,
+    )

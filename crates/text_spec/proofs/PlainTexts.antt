@@ -114,15 +114,18 @@ ArePlain-base16 [] h = tt
 ArePlain-base16 (c ∷ octets) h =
     let fits = h.0 in (
       plain_at hex.upper_digits (c / 16) ArePlain-upper_digits (omega arith),
-      (plain_at hex.upper_digits (c % 16) ArePlain-upper_digits
-          (omega arith), ArePlain-base16 octets h.1),
+      (
+        plain_at hex.upper_digits (c % 16) ArePlain-upper_digits
+            (omega arith),
+        ArePlain-base16 octets h.1,
+      ),
     )
 
 pub base16_token : (octets : List ℕ) → 0 < length octets → AreOctets octets
     → IsOwnToken (base16_text octets)
 base16_token octets some h =
     plain_again (base16_text octets) (omega (arith, length-encode_with hex.upper_digits octets))
-        (ArePlain-base16 octets h)
+    (ArePlain-base16 octets h)
 
 -- ---- base64
 
@@ -140,10 +143,13 @@ ArePlain-symbols (a ∷ []) h =
     (bare-letter (a / 4) (omega arith), (bare-letter (a % 4 * 16) (omega arith), tt))
 ArePlain-symbols (a ∷ b ∷ []) h =
     let first = h.0 in
-    let second = h.1.0 in
-    (bare-letter (a / 4) (omega arith),
-        (bare-letter (a % 4 * 16 + b / 16) (omega arith),
-        (bare-letter (b % 16 * 4) (omega arith), tt)))
+    let second = h.1.0 in (
+      bare-letter (a / 4) (omega arith),
+      (
+        bare-letter (a % 4 * 16 + b / 16) (omega arith),
+        (bare-letter (b % 16 * 4) (omega arith), tt),
+      ),
+    )
 ArePlain-symbols (a ∷ b ∷ c ∷ rest) h =
     let first = h.0 in
     let second = h.1.0 in
@@ -151,15 +157,17 @@ ArePlain-symbols (a ∷ b ∷ c ∷ rest) h =
       bare-letter (a / 4) (omega arith),
       (
         bare-letter (a % 4 * 16 + b / 16) (omega arith),
-        (bare-letter (b % 16 * 4 + c / 64) (omega arith),
-            (bare-letter (c % 64) (omega arith), ArePlain-symbols rest h.1.1.1)),
+        (
+          bare-letter (b % 16 * 4 + c / 64) (omega arith),
+          (bare-letter (c % 64) (omega arith), ArePlain-symbols rest h.1.1.1),
+        ),
       ),
     )
 
 pub ArePlain-base64 : (octets : List ℕ) → AreOctets octets → ArePlain (base64_text octets)
 ArePlain-base64 octets h =
     ArePlain-append (encode_symbols letters octets) (replicate (padding_len (length octets)) 61)
-        (ArePlain-symbols octets h)
+    (ArePlain-symbols octets h)
     (ArePlain-replicate (padding_len (length octets)) 61 refl)
 
 base64_some : (octets : List ℕ) → 0 < length octets → 0 < length (encode_symbols letters octets)
@@ -174,8 +182,11 @@ pub base64_token : (octets : List ℕ) → 0 < length octets → AreOctets octet
 base64_token octets some h =
     let symbols = base64_some octets some in
     plain_again (base64_text octets)
-    (omega (arith, length-append (encode_symbols letters octets)
-        (replicate (padding_len (length octets)) 61)))
+    (omega (
+      arith,
+      length-append (encode_symbols letters octets)
+          (replicate (padding_len (length octets)) 61),
+    ))
     (ArePlain-base64 octets h)
 
 -- ---- addresses
@@ -195,11 +206,11 @@ dotted_plain : (a b c d : ℕ) → a < 256 → b < 256 → c < 256 → d < 256
     → ArePlain (net_text.dotted_text a b c d)
 dotted_plain a b c d la lb lc ld =
     let two = joined (decimal a) (46 ∷ []) (decimal b) (ArePlain-decimal a (omega arith))
-        (refl, tt) (ArePlain-decimal b (omega arith)) in
+    (refl, tt) (ArePlain-decimal b (omega arith)) in
     let three = joined ((decimal a ++ 46 ∷ []) ++ decimal b) (46 ∷ []) (decimal c) two (refl, tt)
-        (ArePlain-decimal c (omega arith)) in
+    (ArePlain-decimal c (omega arith)) in
     joined ((((decimal a ++ 46 ∷ []) ++ decimal b) ++ 46 ∷ []) ++ decimal c) (46 ∷ [])
-        (decimal d) three (refl, tt) (ArePlain-decimal d (omega arith))
+    (decimal d) three (refl, tt) (ArePlain-decimal d (omega arith))
 
 dotted_some : (a b c d : ℕ) → 0 < length (net_text.dotted_text a b c d)
 dotted_some a b c d =
@@ -210,14 +221,14 @@ ArePlain-ipv4 : (octets : List ℕ) → ((i : ℕ) → get_or octets i 0 < 256)
     → ArePlain (net_text.ipv4_text octets)
 ArePlain-ipv4 octets fits =
     dotted_plain (get_or octets 0 0) (get_or octets 1 0) (get_or octets 2 0) (get_or octets 3 0)
-        (fits 0) (fits 1) (fits 2) (fits 3)
+    (fits 0) (fits 1) (fits 2) (fits 3)
 
 pub ipv4_token : (octets : List ℕ) → length octets ≡ 4 → AreOctets octets
     → IsOwnToken (ipv4_text octets)
 ipv4_token octets four h =
     plain_again (ipv4_text octets)
-        (dotted_some (get_or octets 0 0) (get_or octets 1 0) (get_or octets 2 0)
-        (get_or octets 3 0))
+    (dotted_some (get_or octets 0 0) (get_or octets 1 0) (get_or octets 2 0)
+    (get_or octets 3 0))
     (ArePlain-ipv4 octets (octet_at octets h))
 
 bare-digit_char : (d : ℕ) → d < 16 → is_bare (digit_char d) ≡ true
@@ -259,12 +270,14 @@ unfolding net_text.hex
 ArePlain-hex n fits =
     ArePlain-drop (net_text.leading_zero_digits n)
     (digit_char (n / 0x1000) ∷ digit_char (n / 0x100 % 16) ∷ digit_char (n / 0x10 % 16)
-        ∷ digit_char (n % 16) ∷ []) (
+    ∷ digit_char (n % 16) ∷ []) (
       bare-digit_char (n / 0x1000) (omega arith),
       (
         bare-digit_char (n / 0x100 % 16) (omega arith),
-        (bare-digit_char (n / 0x10 % 16) (omega arith),
-            (bare-digit_char (n % 16) (omega arith), tt)),
+        (
+          bare-digit_char (n / 0x10 % 16) (omega arith),
+          (bare-digit_char (n % 16) (omega arith), tt),
+        ),
       ),
     )
 
@@ -279,27 +292,33 @@ hex_some n =
       leading_few n,
       length-drop (net_text.leading_zero_digits n)
           (digit_char (n / 0x1000) ∷ digit_char (n / 0x100 % 16) ∷ digit_char (n / 0x10 % 16)
-              ∷ digit_char (n % 16) ∷ []),
+          ∷ digit_char (n % 16) ∷ []),
     )
 
 more_groups_plain : (segments : List ℕ) → AreSegments segments
     → ArePlain (flat_map (λ s. codes ":" ++ net_text.hex s) segments)
 more_groups_plain [] h = tt
-more_groups_plain (s ∷ segments) h =
-    (refl, ArePlain-append (net_text.hex s) (flat_map (λ s. codes ":" ++ net_text.hex s) segments)
-        (ArePlain-hex s h.0) (more_groups_plain segments h.1))
+more_groups_plain (s ∷ segments) h = (
+  refl,
+  ArePlain-append (net_text.hex s) (flat_map (λ s. codes ":" ++ net_text.hex s) segments)
+      (ArePlain-hex s h.0) (more_groups_plain segments h.1),
+)
 
 groups_plain : (segments : List ℕ) → AreSegments segments → ArePlain (net_text.groups_text segments)
 groups_plain [] h = tt
 groups_plain (s ∷ segments) h =
     ArePlain-append (net_text.hex s) (flat_map (λ t. codes ":" ++ net_text.hex t) segments)
-        (ArePlain-hex s h.0) (more_groups_plain segments h.1)
+    (ArePlain-hex s h.0) (more_groups_plain segments h.1)
 
 groups_some : (segments : List ℕ) → 0 < length segments → 0 < length (net_text.groups_text segments)
 groups_some [] some = absurd (omega arith)
 groups_some (s ∷ segments) some =
-    omega (arith, hex_some s, length-append (net_text.hex s)
-        (flat_map (λ t. codes ":" ++ net_text.hex t) segments))
+    omega (
+      arith,
+      hex_some s,
+      length-append (net_text.hex s)
+          (flat_map (λ t. codes ":" ++ net_text.hex t) segments),
+    )
 
 -- a plain text that isn't empty
 abbrev IsPlainText : List ℕ → Type 0
@@ -316,8 +335,8 @@ compressed_plain segments run some h =
       joined front (58 ∷ 58 ∷ []) behind
           (groups_plain (take run.0 segments) (AreSegments-take run.0 segments h))
           (refl, (refl, tt))
-              (groups_plain (drop (run.0 + run.1) segments)
-              (AreSegments-drop (run.0 + run.1) segments h)),
+          (groups_plain (drop (run.0 + run.1) segments)
+          (AreSegments-drop (run.0 + run.1) segments h)),
     ))
     (λ _. (groups_some segments some, groups_plain segments h))
 
@@ -333,10 +352,10 @@ unfolding net_text.ipv6_text
 ipv6_plain segments some h =
     let octets = net.octets_of (drop 6 segments) in
     let plain = ArePlain-ipv4 octets
-        (octet_at octets (octets_of_segments (drop 6 segments) (AreSegments-drop 6 segments h))) in
+    (octet_at octets (octets_of_segments (drop 6 segments) (AreSegments-drop 6 segments h))) in
     let mapped = codes "::ffff:" ++ net_text.ipv4_text octets in
     cond_both (bytes_eq (take 6 segments) (0 ∷ 0 ∷ 0 ∷ 0 ∷ 0 ∷ 0xffff ∷ [])) mapped
-        (net_text.hex_groups_text segments) IsPlainText
+    (net_text.hex_groups_text segments) IsPlainText
     (λ _. (omega arith, (refl, (refl, (refl, (refl, (refl, (refl, (refl, plain)))))))))
     (λ _. hex_groups_plain segments some h)
 
@@ -349,5 +368,5 @@ pub ipv6_token : (octets : List ℕ) → length octets ≡ 16 → AreOctets octe
     → IsOwnToken (ipv6_text octets)
 ipv6_token octets sixteen h =
     let plain = ipv6_plain (net.segments_of octets) (segments_some octets (omega arith))
-        (AreSegments-segments_of octets h) in
+    (AreSegments-segments_of octets h) in
     plain_again (ipv6_text octets) plain.0 plain.1

@@ -36,7 +36,7 @@ spelled-bare (symbol ∷ symbols) = ap (λ (t : List ℕ). octet_text symbol ++ 
 -- they are added to the token so far
 grouped-bare : (token : List Symbol) (symbols : List Written)
     → token_groups (Some token) (flat_map lexemes_of (bare_pieces symbols))
-        ≡ (token ++ map symbol_of symbols) ∷ []
+    ≡ (token ++ map symbol_of symbols) ∷ []
 grouped-bare token [] = ap (λ (t : List Symbol). t ∷ []) (sym (append-nil token))
 grouped-bare token (symbol ∷ symbols) =
     grouped-bare (token ++ symbol_of symbol ∷ []) symbols
@@ -50,9 +50,13 @@ tokens_of-bare symbol symbols = grouped-bare (symbol_of symbol ∷ []) symbols
 -- symbols that stand bare, at least one, are wholly one token
 pub token_text-bare : (symbol : Written) (symbols : List Written) → AreBare (symbol ∷ symbols)
     → IsTokenText (flat_map octet_text (symbol ∷ symbols)) (map symbol_of (symbol ∷ symbols))
-token_text-bare symbol symbols h =
-    (bare_pieces (symbol ∷ symbols), AreParts-bare (symbol ∷ symbols) h, sym
-        (spelled-bare (symbol ∷ symbols)), tokens_of-bare symbol symbols)
+token_text-bare symbol symbols h = (
+  bare_pieces (symbol ∷ symbols),
+  AreParts-bare (symbol ∷ symbols) h,
+  sym
+      (spelled-bare (symbol ∷ symbols)),
+  tokens_of-bare symbol symbols,
+)
 
 -- ---- printed octets
 
@@ -61,8 +65,8 @@ pub octet-printed : (special : ℕ → Bool) (c : ℕ) → (symbol_of (printed_a
 unfolding printed_as
 octet-printed special c =
     elim (special c) as
-        (λ b. (symbol_of (cond b (Escaped c) (cond (is_visible c) (Plain c) (Decimal c)))).octet
-        ≡ c) [
+    (λ b. (symbol_of (cond b (Escaped c) (cond (is_visible c) (Plain c) (Decimal c)))).octet
+    ≡ c) [
       | true ↦ refl
       | false ↦ elim (is_visible c) as (λ b. (symbol_of (cond b (Plain c) (Decimal c))).octet ≡ c)
           [ true ↦ refl | false ↦ refl ]
@@ -97,7 +101,7 @@ pub bare-printed_in_name : (c : ℕ) → c < 256 → IsSymbol is_bare (printed_a
 unfolding printed_as
 bare-printed_in_name c fits =
     bare_by_tests c (is_special_in_name c) (is_visible c) (escapable-special_in_name c)
-        (bare-visible_in_name c) fits
+    (bare-visible_in_name c) fits
 
 -- how octets are written, where some stand behind a backslash
 abbrev pub written_as : (ℕ → Bool) → List ℕ → List Written
@@ -135,15 +139,18 @@ pub token_text-printed : (c : ℕ) (octets : List ℕ) → AreOctets (c ∷ octe
 token_text-printed c octets h =
     rw (← written-printed is_special (c ∷ octets))
     (token_text-bare (printed_as is_special c) (written_as is_special octets)
-        (AreBare-printed (c ∷ octets) h))
+    (AreBare-printed (c ∷ octets) h))
 
 -- printed octets are read back
 pub octets_again : (c : ℕ) (octets : List ℕ) → AreOctets (c ∷ octets)
     → (token : List Symbol) × IsTokenText (printed_octets (c ∷ octets)) token
-        × (octets_of token ≡ c ∷ octets)
-octets_again c octets h =
-    (printed_token (c ∷ octets), token_text-printed c octets h, octets_of-printed is_special
-        (c ∷ octets))
+    × (octets_of token ≡ c ∷ octets)
+octets_again c octets h = (
+  printed_token (c ∷ octets),
+  token_text-printed c octets h,
+  octets_of-printed is_special
+      (c ∷ octets),
+)
 
 -- ---- the marker of data of any type
 

@@ -45,17 +45,17 @@ lexemes_at-refused place c rest text fault is refused =
 pub lexemes_at-reads : (place : Place) (c : ℕ) (rest : List ℕ) (front : Front)
     → step place c rest ≡ Ok front
     → lexemes_at place 0 (c ∷ rest)
-        ≡ with_front front.lexeme (lexemes_at front.place 0 (drop front.len rest))
+    ≡ with_front front.lexeme (lexemes_at front.place 0 (drop front.len rest))
 lexemes_at-reads place c rest front is =
     lexemes_at-front place c rest ∙ ap (after rest) is
-        ∙ ap (with_front front.lexeme) (lexemes_at-skip front.place front.len rest)
+    ∙ ap (with_front front.lexeme) (lexemes_at-skip front.place front.len rest)
 
 -- the same, with what is left as a range of a slice has it
 pub lexemes_at-read : (place : Place) (c : ℕ) (rest text : List ℕ) (front : Front)
     → text ≡ c ∷ rest → Ok front ≡ step place c rest
     → lexemes_at place 0 text
-        ≡ with_front front.lexeme
-        (lexemes_at front.place 0 (take (length rest - front.len) (drop front.len rest)))
+    ≡ with_front front.lexeme
+    (lexemes_at front.place 0 (take (length rest - front.len) (drop front.len rest)))
 lexemes_at-read place c rest text front is reads =
     ap (lexemes_at place 0) is ∙ lexemes_at-reads place c rest front (sym reads)
     ∙ ap (λ left. with_front front.lexeme (lexemes_at front.place 0 left))

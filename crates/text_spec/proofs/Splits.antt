@@ -86,10 +86,10 @@ grouped-token : (lexemes more : List Lexeme) (token : List Symbol) → IsSolid l
     → token_groups None (lexemes ++ more) ≡ token_groups (Some token) more
 grouped-token lexemes more token h e =
     let alone : token_groups (held_behind_all None lexemes) [] ≡ token ∷ [] =
-        sym (grouped-solid None lexemes [] h) ∙ ap (token_groups None) (append-nil lexemes) ∙ e in
+    sym (grouped-solid None lexemes [] h) ∙ ap (token_groups None) (append-nil lexemes) ∙ e in
     grouped-solid None lexemes more h
-        ∙ ap (λ (held : Option (List Symbol)). token_groups held more)
-        (held_is (held_behind_all None lexemes) token alone)
+    ∙ ap (λ (held : Option (List Symbol)). token_groups held more)
+    (held_is (held_behind_all None lexemes) token alone)
 
 -- parts of tokens in front of an entry
 IsEntry-parts : (parts more : List Piece) (depth : ℕ) → AreParts parts → IsEntry depth more
@@ -137,7 +137,7 @@ IsEntry-blanks (c ∷ d ∷ text) held more depth h k = absurd h
 grouped-blanks : (text : List ℕ) (held : Option (List Symbol)) (lexemes : List Lexeme)
     → SetsApart text held
     → token_groups held (flat_map lexemes_of (blanks text) ++ lexemes)
-        ≡ held_tokens held ++ token_groups None lexemes
+    ≡ held_tokens held ++ token_groups None lexemes
 grouped-blanks [] held lexemes h =
     ap (λ (t : Option (List Symbol)). token_groups t lexemes) h
     ∙ sym (ap (λ (t : Option (List Symbol)). held_tokens t ++ token_groups None lexemes) h)
@@ -170,7 +170,7 @@ apart-behind Tabbed layout held h k =
     subst (λ (b : Bool). SetsApart (if b then [] else 9 ∷ []) held) (sym h) refl
 apart-behind Multiline layout held h k =
     subst (λ (b : Bool). SetsApart
-        (if b then [] else (if layout.after_comment then [] else 32 ∷ [])) held) (sym h)
+    (if b then [] else (if layout.after_comment then [] else 32 ∷ [])) held) (sym h)
     (subst (λ (b : Bool). SetsApart (if b then [] else 32 ∷ []) held) (sym k) refl)
 
 -- ---- what an item puts in front
@@ -220,7 +220,7 @@ joined kind item items layout held after tokens more_tokens f s = record {
 silent : (kind : DisplayKind) (item : Item) (layout : Layout) (held : Option (List Symbol))
     (tokens : List (List Symbol))
     → item_text kind item layout ≡ []
-        → depth_of kind (blocks_after item layout.blocks) ≡ depth_of kind layout.blocks
+    → depth_of kind (blocks_after item layout.blocks) ≡ depth_of kind layout.blocks
     → separator kind (layout_step kind item layout) ≡ separator kind layout
     → SetsApart (separator kind layout) held
     → Front kind item layout held tokens held tokens
@@ -242,7 +242,7 @@ not_empty-append (x ∷ xs) ys h = not_empty x (xs ++ ys)
 -- the separator of a text with nothing behind
 same_separator : (kind : DisplayKind) (text : List ℕ) (blocks more : ℕ) (after_comment : Bool)
     → separator kind (record { text = text ++ []; blocks = more; after_comment = after_comment })
-        ≡ separator kind (record { text = text; blocks = blocks; after_comment = after_comment })
+    ≡ separator kind (record { text = text; blocks = blocks; after_comment = after_comment })
 same_separator Simple text blocks more after_comment =
     ap (λ (t : List ℕ). separator Simple
     (record { text = t; blocks = blocks; after_comment = after_comment })) (append-nil text)
@@ -269,13 +269,13 @@ front-token kind c text layout held token tokens is apart =
     let separated : List ℕ = separator kind layout in
     let parts : List Piece = is.0 in
     let written : item_text kind (Token (c ∷ text)) layout ≡ separated ++ (c ∷ text) =
-        ap (λ (b : Bool). if b then [] else separated ++ (c ∷ text)) (not_empty c text) in
+    ap (λ (b : Bool). if b then [] else separated ++ (c ∷ text)) (not_empty c text) in
     let comment : (layout_step kind (Token (c ∷ text)) layout).after_comment ≡ false =
-        ap (λ (b : Bool). if b then layout.after_comment else false) (not_empty c text) in
+    ap (λ (b : Bool). if b then layout.after_comment else false) (not_empty c text) in
     let some : (length (layout.text ++ item_text kind (Token (c ∷ text)) layout) == 0) ≡ false =
-        ap (λ (t : List ℕ). length (layout.text ++ t) == 0) written
-        ∙ not_empty-append layout.text (separated ++ (c ∷ text))
-        (not_empty-append separated (c ∷ text) (not_empty c text)) in
+    ap (λ (t : List ℕ). length (layout.text ++ t) == 0) written
+    ∙ not_empty-append layout.text (separated ++ (c ∷ text))
+    (not_empty-append separated (c ∷ text) (not_empty c text)) in
     record {
       front = blanks separated ++ parts;
       text = written ∙ ap (λ (t : List ℕ). separated ++ t) is.2
@@ -301,7 +301,7 @@ front-token kind c text layout held token tokens is apart =
 front-bracket : (item : Item) (bracket : Piece) (layout : Layout) (held : Option (List Symbol))
     (tokens : List (List Symbol))
     → item_text Multiline item layout
-        ≡ separator Multiline layout ++ flat_map piece_octets (bracket ∷ [])
+    ≡ separator Multiline layout ++ flat_map piece_octets (bracket ∷ [])
     → lexemes_of bracket ≡ Gap ∷ []
     → ((more : List Piece) → IsEntry (blocks_after item layout.blocks) more
     → IsEntry layout.blocks (bracket ∷ more))
@@ -333,17 +333,23 @@ front-begin : (kind : DisplayKind) (layout : Layout) (held : Option (List Symbol
     (tokens : List (List Symbol))
     → SetsApart (separator kind layout) held
     → (after : Option (List Symbol)) × Front kind BlockBegin layout held tokens after tokens
-front-begin Simple layout held tokens apart =
-    (held, silent Simple BlockBegin layout held tokens refl refl
-    (same_separator Simple layout.text layout.blocks (layout.blocks + 1) layout.after_comment)
-    apart)
-front-begin Tabbed layout held tokens apart =
-    (held, silent Tabbed BlockBegin layout held tokens refl refl
-    (same_separator Tabbed layout.text layout.blocks (layout.blocks + 1) layout.after_comment)
-    apart)
-front-begin Multiline layout held tokens apart =
-    (None, front-bracket BlockBegin Opening layout held tokens refl refl
-    (λ more h. subst (λ (d : ℕ). IsEntry d more) (add-one layout.blocks) h) apart)
+front-begin Simple layout held tokens apart = (
+  held,
+  silent Simple BlockBegin layout held tokens refl refl
+      (same_separator Simple layout.text layout.blocks (layout.blocks + 1) layout.after_comment)
+      apart,
+)
+front-begin Tabbed layout held tokens apart = (
+  held,
+  silent Tabbed BlockBegin layout held tokens refl refl
+      (same_separator Tabbed layout.text layout.blocks (layout.blocks + 1) layout.after_comment)
+      apart,
+)
+front-begin Multiline layout held tokens apart = (
+  None,
+  front-bracket BlockBegin Opening layout held tokens refl refl
+      (λ more h. subst (λ (d : ℕ). IsEntry d more) (add-one layout.blocks) h) apart,
+)
 
 -- where a block is open, its end is a closing bracket
 closing-row : (blocks : ℕ) (more : List Piece) → 0 < blocks → IsEntry (blocks - 1) more
@@ -356,17 +362,23 @@ front-end : (kind : DisplayKind) (layout : Layout) (held : Option (List Symbol))
     (tokens : List (List Symbol))
     → 0 < layout.blocks → SetsApart (separator kind layout) held
     → (after : Option (List Symbol)) × Front kind BlockEnd layout held tokens after tokens
-front-end Simple layout held tokens within apart =
-    (held, silent Simple BlockEnd layout held tokens refl refl
-    (same_separator Simple layout.text layout.blocks (layout.blocks - 1) layout.after_comment)
-    apart)
-front-end Tabbed layout held tokens within apart =
-    (held, silent Tabbed BlockEnd layout held tokens refl refl
-    (same_separator Tabbed layout.text layout.blocks (layout.blocks - 1) layout.after_comment)
-    apart)
-front-end Multiline layout held tokens within apart =
-    (None, front-bracket BlockEnd Closing layout held tokens refl refl
-    (λ more h. closing-row layout.blocks more within h) apart)
+front-end Simple layout held tokens within apart = (
+  held,
+  silent Simple BlockEnd layout held tokens refl refl
+      (same_separator Simple layout.text layout.blocks (layout.blocks - 1) layout.after_comment)
+      apart,
+)
+front-end Tabbed layout held tokens within apart = (
+  held,
+  silent Tabbed BlockEnd layout held tokens refl refl
+      (same_separator Tabbed layout.text layout.blocks (layout.blocks - 1) layout.after_comment)
+      apart,
+)
+front-end Multiline layout held tokens within apart = (
+  None,
+  front-bracket BlockEnd Closing layout held tokens refl refl
+      (λ more h. closing-row layout.blocks more within h) apart,
+)
 
 -- ---- comments
 
@@ -393,7 +405,7 @@ front-comment-shown : (text : List ℕ) (layout : Layout) (held : Option (List S
 front-comment-shown text layout held tokens shown line apart =
     let before : List ℕ = before_comment layout.after_comment in
     let apart' : SetsApart before held =
-        apart-comment (length layout.text == 0) layout.after_comment held apart in
+    apart-comment (length layout.text == 0) layout.after_comment held apart in
     let comment : List Piece = pieces.Comment (32 ∷ text) ∷ LineEnd ∷ Blank 9 ∷ [] in
     let within : 0 < layout.blocks = grind (arith, nat_tests, shown) in
     record {
@@ -421,15 +433,18 @@ front-comment-hidden : (text : List ℕ) (layout : Layout) (held : Option (List 
 front-comment-hidden text layout held tokens hidden apart =
     let before : List ℕ = before_comment layout.after_comment in
     let written : item_text Multiline (Comment text) layout ≡ [] =
-        ap (λ (b : Bool). if b then before ++ (59 ∷ 32 ∷ text ++ 10 ∷ 9 ∷ []) else []) hidden in
+    ap (λ (b : Bool). if b then before ++ (59 ∷ 32 ∷ text ++ 10 ∷ 9 ∷ []) else []) hidden in
     let comment : (layout_step Multiline (Comment text) layout).after_comment
-        ≡ layout.after_comment = ap (λ (b : Bool). if b then true else layout.after_comment) hidden
-        in
+    ≡ layout.after_comment = ap (λ (b : Bool). if b then true else layout.after_comment) hidden
+    in
     let same : separator Multiline (layout_step Multiline (Comment text) layout)
-        ≡ separator Multiline layout =
+    ≡ separator Multiline layout =
     ap (λ (t : List ℕ). separator Multiline
-        (record { text = layout.text ++ t; blocks = layout.blocks;
-        after_comment = (layout_step Multiline (Comment text) layout).after_comment })) written
+    (record {
+      text = layout.text ++ t;
+      blocks = layout.blocks;
+      after_comment = (layout_step Multiline (Comment text) layout).after_comment;
+    })) written
     ∙ ap (λ (b : Bool). separator Multiline
     (record { text = layout.text ++ []; blocks = layout.blocks; after_comment = b })) comment
     ∙ same_separator Multiline layout.text layout.blocks layout.blocks layout.after_comment in
@@ -438,14 +453,18 @@ front-comment-hidden text layout held tokens hidden apart =
 front-comment : (kind : DisplayKind) (text : List ℕ) (layout : Layout)
     (held : Option (List Symbol)) (tokens : List (List Symbol))
     → IsOneLine text → SetsApart (separator kind layout) held → (shown : Bool)
-        → nat_lt 0 layout.blocks ≡ shown
+    → nat_lt 0 layout.blocks ≡ shown
     → (after : Option (List Symbol)) × Front kind (Comment text) layout held tokens after tokens
-front-comment Simple text layout held tokens line apart shown is =
-    (held, silent Simple (Comment text) layout held tokens refl refl
-    (same_separator Simple layout.text layout.blocks layout.blocks layout.after_comment) apart)
-front-comment Tabbed text layout held tokens line apart shown is =
-    (held, silent Tabbed (Comment text) layout held tokens refl refl
-    (same_separator Tabbed layout.text layout.blocks layout.blocks layout.after_comment) apart)
+front-comment Simple text layout held tokens line apart shown is = (
+  held,
+  silent Simple (Comment text) layout held tokens refl refl
+      (same_separator Simple layout.text layout.blocks layout.blocks layout.after_comment) apart,
+)
+front-comment Tabbed text layout held tokens line apart shown is = (
+  held,
+  silent Tabbed (Comment text) layout held tokens refl refl
+      (same_separator Tabbed layout.text layout.blocks layout.blocks layout.after_comment) apart,
+)
 front-comment Multiline text layout held tokens line apart true is =
     (None, front-comment-shown text layout held tokens is line apart)
 front-comment Multiline text layout held tokens line apart false is =
@@ -471,7 +490,7 @@ ended items (suc blocks) h = (omega arith, ap (depth_after items) (omega arith) 
 splits : (kind : DisplayKind) (items : List Item) (layout : Layout) (held : Option (List Symbol))
     (tokens : List (List Symbol))
     → depth_after items layout.blocks ≡ Some 0 → HasOneLineComments items
-        → AreTokenTexts items tokens
+    → AreTokenTexts items tokens
     → SetsApart (separator kind layout) held → Splits kind items layout held tokens
 splits kind [] layout held [] d c a p = record {
   row = [];
@@ -483,27 +502,27 @@ splits kind [] layout held (token ∷ tokens) d c a p = absurd a
 splits kind (Token [] ∷ items) layout held tokens d c a p =
     let f = front-nothing kind layout held tokens p in
     joined kind (Token []) items layout held held tokens tokens f
-        (splits kind items (layout_step kind (Token []) layout) held tokens d c a f.apart)
+    (splits kind items (layout_step kind (Token []) layout) held tokens d c a f.apart)
 splits kind (Token (x ∷ text) ∷ items) layout held [] d c a p = absurd a
 splits kind (Token (x ∷ text) ∷ items) layout held (token ∷ tokens) d c a p =
     let f = front-token kind x text layout held token tokens a.0 p in
     joined kind (Token (x ∷ text)) items layout held (Some token) (token ∷ tokens) tokens f
-        (splits kind items (layout_step kind (Token (x ∷ text)) layout)
-        (Some token) tokens d c a.1 f.apart)
+    (splits kind items (layout_step kind (Token (x ∷ text)) layout)
+    (Some token) tokens d c a.1 f.apart)
 splits kind (Comment text ∷ items) layout held tokens d c a p =
     let f = front-comment kind text layout held tokens c.0 p (nat_lt 0 layout.blocks) refl in
     joined kind (Comment text) items layout held f.0 tokens tokens f.1
-        (splits kind items (layout_step kind (Comment text) layout) f.0 tokens d c.1 a f.1.apart)
+    (splits kind items (layout_step kind (Comment text) layout) f.0 tokens d c.1 a f.1.apart)
 splits kind (BlockBegin ∷ items) layout held tokens d c a p =
     let f = front-begin kind layout held tokens p in
     joined kind BlockBegin items layout held f.0 tokens tokens f.1
-        (splits kind items (layout_step kind BlockBegin layout) f.0 tokens
-        (ap (depth_after items) (add-one layout.blocks) ∙ d) c a f.1.apart)
+    (splits kind items (layout_step kind BlockBegin layout) f.0 tokens
+    (ap (depth_after items) (add-one layout.blocks) ∙ d) c a f.1.apart)
 splits kind (BlockEnd ∷ items) layout held tokens d c a p =
     let e = ended items layout.blocks d in
     let f = front-end kind layout held tokens e.0 p in
     joined kind BlockEnd items layout held f.0 tokens tokens f.1
-        (splits kind items (layout_step kind BlockEnd layout) f.0 tokens e.1 c a f.1.apart)
+    (splits kind items (layout_step kind BlockEnd layout) f.0 tokens e.1 c a f.1.apart)
 
 depth_of-zero : (kind : DisplayKind) → depth_of kind 0 ≡ 0
 depth_of-zero Simple = refl
@@ -513,5 +532,5 @@ depth_of-zero Multiline = refl
 pub layout_splits : LayoutSplits
 layout_splits kind items tokens document are =
     let s = splits kind items empty_layout None tokens (document.closes 0) document.comments are
-        (apart-none kind empty_layout) in
+    (apart-none kind empty_layout) in
     (s.row, subst (λ (d : ℕ). IsEntry d s.row) (depth_of-zero kind) s.entry, s.text, sym s.lexemes)

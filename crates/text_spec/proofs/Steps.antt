@@ -35,7 +35,7 @@ behind = record { depth = 0; quoted = false; ended = true }
 pub entry-reads : (depth c : ℕ) (rest : List ℕ) (front : Front)
     → open_step (in_entry depth) c rest ≡ Ok front
     → lexemes_at (in_entry depth) 0 (c ∷ rest)
-        ≡ with_front front.lexeme (lexemes_at front.place 0 (drop front.len rest))
+    ≡ with_front front.lexeme (lexemes_at front.place 0 (drop front.len rest))
 unfolding step
 entry-reads depth c rest front is = lexemes_at-reads (in_entry depth) c rest front is
 
@@ -49,7 +49,7 @@ entry-refuses depth c rest fault is =
 pub string-reads : (depth c : ℕ) (rest : List ℕ) (front : Front)
     → quoted_step (in_string depth) c rest ≡ Ok front
     → lexemes_at (in_string depth) 0 (c ∷ rest)
-        ≡ with_front front.lexeme (lexemes_at front.place 0 (drop front.len rest))
+    ≡ with_front front.lexeme (lexemes_at front.place 0 (drop front.len rest))
 unfolding step
 string-reads depth c rest front is = lexemes_at-reads (in_string depth) c rest front is
 
@@ -62,7 +62,7 @@ string-refuses depth c rest fault is =
 
 pub behind-reads : (c : ℕ) (rest : List ℕ) (front : Front) → ended_step behind c rest ≡ Ok front
     → lexemes_at behind 0 (c ∷ rest)
-        ≡ with_front front.lexeme (lexemes_at front.place 0 (drop front.len rest))
+    ≡ with_front front.lexeme (lexemes_at front.place 0 (drop front.len rest))
 unfolding step
 behind-reads c rest front is = lexemes_at-reads behind c rest front is
 
@@ -103,7 +103,7 @@ quotable-step place c rest quotable = grind (arith, nat_tests)
 -- a symbol outside quotes
 pub bare-read : (depth : ℕ) (symbol : Written) (rest : List ℕ) → IsSymbol is_bare symbol
     → lexemes_at (in_entry depth) 0 (octet_text symbol ++ rest)
-        ≡ with_front (Octet (symbol_of symbol)) (lexemes_at (in_entry depth) 0 rest)
+    ≡ with_front (Octet (symbol_of symbol)) (lexemes_at (in_entry depth) 0 rest)
 bare-read depth (Plain c) rest bare =
     entry-reads depth c rest _ (bare-step (in_entry depth) c rest bare)
 bare-read depth (Escaped c) rest escapable =
@@ -114,7 +114,7 @@ bare-read depth (Decimal c) rest octet =
 -- a symbol in a quoted string
 pub quotable-read : (depth : ℕ) (symbol : Written) (rest : List ℕ) → IsSymbol is_quotable symbol
     → lexemes_at (in_string depth) 0 (octet_text symbol ++ rest)
-        ≡ with_front (Octet (symbol_of symbol)) (lexemes_at (in_string depth) 0 rest)
+    ≡ with_front (Octet (symbol_of symbol)) (lexemes_at (in_string depth) 0 rest)
 quotable-read depth (Plain c) rest quotable =
     string-reads depth c rest _ (quotable-step (in_string depth) c rest quotable)
 quotable-read depth (Escaped c) rest escapable =
@@ -170,11 +170,11 @@ quote-ends depth rest = string-reads depth 34 rest _ refl
 pub symbols-read : (depth : ℕ) (symbols : List Written) (rest : List ℕ)
     → AllByRecursion (IsSymbol is_quotable) symbols
     → lexemes_at (in_string depth) 0 (flat_map octet_text symbols ++ rest)
-        ≡ with_lexemes (lexemes_of_symbols symbols) (lexemes_at (in_string depth) 0 rest)
+    ≡ with_lexemes (lexemes_of_symbols symbols) (lexemes_at (in_string depth) 0 rest)
 symbols-read depth [] rest quotable = sym (with_lexemes-nil (lexemes_at (in_string depth) 0 rest))
 symbols-read depth (symbol ∷ symbols) rest quotable =
     ap (lexemes_at (in_string depth) 0)
-        (append_assoc (octet_text symbol) (flat_map octet_text symbols) rest)
+    (append_assoc (octet_text symbol) (flat_map octet_text symbols) rest)
     ∙ quotable-read depth symbol (flat_map octet_text symbols ++ rest) quotable.0
     ∙ ap (with_front (Octet (symbol_of symbol))) (symbols-read depth symbols rest quotable.1)
     ∙ sym (with_lexemes-cons (Octet (symbol_of symbol)) (lexemes_of_symbols symbols)
@@ -183,11 +183,11 @@ symbols-read depth (symbol ∷ symbols) rest quotable =
 pub string-read : (depth : ℕ) (symbols : List Written) (rest : List ℕ)
     → AllByRecursion (IsSymbol is_quotable) symbols
     → lexemes_at (in_entry depth) 0 (piece_octets (Quoted symbols) ++ rest)
-        ≡ with_lexemes (lexemes_of (Quoted symbols)) (lexemes_at (in_entry depth) 0 rest)
+    ≡ with_lexemes (lexemes_of (Quoted symbols)) (lexemes_at (in_entry depth) 0 rest)
 string-read depth symbols rest quotable =
     let following = lexemes_at (in_entry depth) 0 rest in
     ap (λ left. lexemes_at (in_entry depth) 0 (34 ∷ left))
-        (append_assoc (flat_map octet_text symbols) (34 ∷ []) rest)
+    (append_assoc (flat_map octet_text symbols) (34 ∷ []) rest)
     ∙ quote-begins depth (flat_map octet_text symbols ++ 34 ∷ rest)
     ∙ ap (with_front Quote) (symbols-read depth symbols (34 ∷ rest) quotable
     ∙ ap (with_lexemes (lexemes_of_symbols symbols))
@@ -227,11 +227,11 @@ line-read rest = entry-reads 0 10 rest _ refl
 -- a line's end within brackets
 pub line-read_within : (depth : ℕ) (rest : List ℕ)
     → lexemes_at (in_entry (suc depth)) 0 (10 ∷ rest)
-        ≡ with_front Gap (lexemes_at (in_entry (suc depth)) 0 rest)
+    ≡ with_front Gap (lexemes_at (in_entry (suc depth)) 0 rest)
 line-read_within depth rest =
     entry-reads (suc depth) 10 rest (record { lexeme = Gap; place = in_entry (suc depth); len = 0 })
     (ap (λ ended. front_of Gap (record { depth = suc depth; quoted = false; ended = ended }) 0)
-        (suc-is_zero depth))
+    (suc-is_zero depth))
 
 pub line-read_behind : (rest : List ℕ)
     → lexemes_at behind 0 (10 ∷ rest) ≡ with_front Gap (lexemes_at behind 0 rest)
@@ -242,13 +242,13 @@ pub opening-read : (depth : ℕ) (rest : List ℕ)
     ≡ with_front Gap (lexemes_at (in_entry (suc depth)) 0 rest)
 opening-read depth rest =
     entry-reads depth 40 rest (record { lexeme = Gap; place = in_entry (suc depth); len = 0 })
-        (ap (λ n. front_of Gap (in_entry n) 0) (add-one depth))
+    (ap (λ n. front_of Gap (in_entry n) 0) (add-one depth))
 
 closing-step : (depth : ℕ) (rest : List ℕ)
     → open_step (in_entry (suc depth)) 41 rest ≡ front_of Gap (in_entry depth) 0
 closing-step depth rest =
     ap (λ none. cond none (Err BadBracket) (front_of Gap (in_entry (suc depth - 1)) 0))
-        (suc-is_zero depth)
+    (suc-is_zero depth)
     ∙ ap (λ n. front_of Gap (in_entry n) 0) (omega arith)
 
 pub closing-read : (depth : ℕ) (rest : List ℕ)
@@ -276,15 +276,15 @@ drop-comment text following comment =
 
 pub comment-read : (depth : ℕ) (text following : List ℕ) → IsComment text following
     → lexemes_at (in_entry depth) 0 (59 ∷ text ++ following)
-        ≡ with_front Gap (lexemes_at (in_entry depth) 0 following)
+    ≡ with_front Gap (lexemes_at (in_entry depth) 0 following)
 comment-read depth text following comment =
     entry-reads depth 59 (text ++ following) _ refl
-        ∙ ap (λ left. with_front Gap (lexemes_at (in_entry depth) 0 left))
-        (drop-comment text following comment)
+    ∙ ap (λ left. with_front Gap (lexemes_at (in_entry depth) 0 left))
+    (drop-comment text following comment)
 
 pub comment-read_behind : (text following : List ℕ) → IsComment text following
     → lexemes_at behind 0 (59 ∷ text ++ following) ≡ with_front Gap (lexemes_at behind 0 following)
 comment-read_behind text following comment =
     behind-reads 59 (text ++ following) _ refl
-        ∙ ap (λ left. with_front Gap (lexemes_at behind 0 left))
-        (drop-comment text following comment)
+    ∙ ap (λ left. with_front Gap (lexemes_at behind 0 left))
+    (drop-comment text following comment)

@@ -19,7 +19,7 @@ use Rattle.text_spec.specs.Pieces.{is_blank, symbol_of, Piece, Blank, LineEnd, C
 pub IsRow-parts : (within : ℕ → Type 0) (ended : Type 0) (rest : List ℕ) (depth : ℕ)
     (parts pieces : List Piece) → AreParts parts
     → IsPieceRow within ended rest depth pieces
-        → IsPieceRow within ended rest depth (parts ++ pieces)
+    → IsPieceRow within ended rest depth (parts ++ pieces)
 IsRow-parts within ended rest depth [] pieces are row = row
 IsRow-parts within ended rest depth (Bare symbol ∷ parts) pieces are row =
     (are.0, IsRow-parts within ended rest depth parts pieces are.1 row)
@@ -64,9 +64,9 @@ AreOfToken-parts [] are = tt
 AreOfToken-parts (Bare symbol ∷ parts) are = AreOfToken-parts parts are.1
 AreOfToken-parts (Quoted symbols ∷ parts) are =
     AreOfToken-append (map (λ w. Octet (symbol_of w)) symbols ++ Quote ∷ [])
-        (flat_map lexemes_of parts)
+    (flat_map lexemes_of parts)
     (AreOfToken-append (map (λ w. Octet (symbol_of w)) symbols) (Quote ∷ [])
-        (AreOfToken-symbols symbols) tt) (AreOfToken-parts parts are.1)
+    (AreOfToken-symbols symbols) tt) (AreOfToken-parts parts are.1)
 AreOfToken-parts (piece ∷ parts) are = absurd are
 
 grouped-front : (token : Option (List Symbol)) (front lexemes : List Lexeme) → AreOfToken front
@@ -84,7 +84,7 @@ grouped-front (Some token) (Octet symbol ∷ front) lexemes are =
 -- parts of tokens end no token
 pub grouped-parts : (token : Option (List Symbol)) (parts pieces : List Piece) → AreParts parts
     → token_groups token (flat_map lexemes_of (parts ++ pieces))
-        ≡ token_groups (open_behind token (flat_map lexemes_of parts)) (flat_map lexemes_of pieces)
+    ≡ token_groups (open_behind token (flat_map lexemes_of parts)) (flat_map lexemes_of pieces)
 grouped-parts token parts pieces are =
     ap (token_groups token) (flat_map-append lexemes_of parts pieces)
     ∙ grouped-front token (flat_map lexemes_of parts) (flat_map lexemes_of pieces)
@@ -104,8 +104,8 @@ grouped-token parts pieces token are is =
     let alone : tokens_of parts ≡ token_groups behind [] =
     ap (λ row. tokens_of row) (sym (append-nil parts)) ∙ grouped-parts None parts [] are in
     grouped-parts None parts pieces are
-        ∙ ap (λ token'. token_groups token' (flat_map lexemes_of pieces))
-        (open_is token behind (sym alone ∙ is))
+    ∙ ap (λ token'. token_groups token' (flat_map lexemes_of pieces))
+    (open_is token behind (sym alone ∙ is))
 
 -- ---- texts
 
@@ -125,7 +125,7 @@ HasGapFirst (piece ∷ pieces) = Unit {0}
 abbrev pub GapText : ℕ → List ℕ → List (List Symbol) → Type 0
 GapText depth text tokens =
     (pieces : List Piece) × HasGapFirst pieces × IsEntry depth pieces
-        × (text ≡ flat_map piece_octets pieces) × (tokens ≡ tokens_of pieces)
+    × (text ≡ flat_map piece_octets pieces) × (tokens ≡ tokens_of pieces)
 
 pub entry_from_gap : (depth : ℕ) (text : List ℕ) (tokens : List (List Symbol))
     → GapText depth text tokens → EntryText depth text tokens
@@ -148,9 +148,14 @@ module _ (depth : ℕ) (text : List ℕ) (tokens : List (List Symbol)) where
   pub comment_on : (comment : List ℕ) → AllByRecursion (λ c. IsTrue (not (c == 10))) comment
       → EntryText (suc depth) text tokens
       → GapText (suc depth) (59 ∷ comment ++ 10 ∷ text) tokens
-  comment_on comment one_line (pieces, row, is, are) =
-      (Comment comment ∷ LineEnd ∷ pieces, tt, ((one_line, refl), row), ap
-          (λ left. 59 ∷ comment ++ 10 ∷ left) is, are)
+  comment_on comment one_line (pieces, row, is, are) = (
+    Comment comment ∷ LineEnd ∷ pieces,
+    tt,
+    ((one_line, refl), row),
+    ap
+        (λ left. 59 ∷ comment ++ 10 ∷ left) is,
+    are,
+  )
 
   pub opening_on : EntryText (suc depth) text tokens → GapText depth (40 ∷ text) tokens
   opening_on (pieces, row, is, are) = (Opening ∷ pieces, tt, row, ap (λ left. 40 ∷ left) is, are)
@@ -169,16 +174,16 @@ grouped-gap token (piece ∷ pieces) gap = refl
 pub token_on : (depth : ℕ) (text : List ℕ) (tokens : List (List Symbol)) (token_text : List ℕ)
     (token : List Symbol)
     → IsTokenText token_text token → GapText depth text tokens
-        → EntryText depth (token_text ++ text) (token ∷ tokens)
+    → EntryText depth (token_text ++ text) (token ∷ tokens)
 token_on depth text tokens token_text token (parts, are_parts, spells, is_token)
     (pieces, gap, row, is, are) = (
-  parts ++ pieces,
-  IsEntry-parts depth parts pieces are_parts row,
-  ap (λ front. front ++ text) spells ∙ ap (λ left. flat_map piece_octets parts ++ left) is
-      ∙ sym (flat_map-append piece_octets parts pieces),
-  ap (λ more. token ∷ more) are
-      ∙ sym (grouped-token parts pieces token are_parts is_token ∙ grouped-gap token pieces gap),
-)
+      parts ++ pieces,
+      IsEntry-parts depth parts pieces are_parts row,
+      ap (λ front. front ++ text) spells ∙ ap (λ left. flat_map piece_octets parts ++ left) is
+          ∙ sym (flat_map-append piece_octets parts pieces),
+      ap (λ more. token ∷ more) are
+          ∙ sym (grouped-token parts pieces token are_parts is_token ∙ grouped-gap token pieces gap),
+    )
 
 -- a token text alone is an entry of that token
 pub has_token : (text : List ℕ) (token : List Symbol) → IsTokenText text token

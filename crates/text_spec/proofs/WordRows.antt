@@ -15,7 +15,7 @@ use Rattle.text_spec.specs.Words.{Word, Text, OpeningBracket, ClosingBracket, wo
 -- a gap ends the token so far
 pub grouped-gap : (token : Option (List Symbol)) (front behind : List Lexeme)
     → token_groups token (front ++ Gap ∷ behind)
-        ≡ token_groups token front ++ token_groups None behind
+    ≡ token_groups token front ++ token_groups None behind
 grouped-gap None [] behind = refl
 grouped-gap (Some token) [] behind = refl
 grouped-gap None (Gap ∷ front) behind = grouped-gap None front behind
@@ -55,7 +55,7 @@ IsEntry-parts depth (Closing ∷ parts) pieces h e = absurd h
 abbrev pub IsRestText : ℕ → List ℕ → List (List Symbol) → Type 0
 IsRestText depth text tokens =
     (pieces : List Piece) × IsEntry depth pieces × (text ≡ flat_map piece_octets pieces)
-        × (tokens ≡ tokens_of pieces)
+    × (tokens ≡ tokens_of pieces)
 
 text_last : (depth : ℕ) (text : List ℕ) (token : List Symbol) → IsTokenText text token → depth ≡ 0
     → IsRestText depth text (token ∷ [])
@@ -69,30 +69,38 @@ text_last depth text token (parts, are, text_is, tokens_are) closed = (
 text_before : (depth : ℕ) (text : List ℕ) (token : List Symbol) (rest : List ℕ)
     (tokens : List (List Symbol))
     → IsTokenText text token → IsRestText depth rest tokens
-        → IsRestText depth (text ++ 32 ∷ rest) (token ∷ tokens)
+    → IsRestText depth (text ++ 32 ∷ rest) (token ∷ tokens)
 text_before depth text token rest tokens (parts, are, text_is, tokens_are)
     (pieces, entry, rest_is, rest_tokens) = (
-  parts ++ Blank 32 ∷ pieces,
-  IsEntry-parts depth parts (Blank 32 ∷ pieces) are (refl, entry),
-  ap₂ (λ (t r : List ℕ). t ++ 32 ∷ r) text_is rest_is
-      ∙ sym (flat_map-append piece_octets parts (Blank 32 ∷ pieces)),
-  sym (tokens_of-gap parts (Blank 32) pieces refl
-      ∙ ap₂ (λ (a b : List (List Symbol)). a ++ b) tokens_are (sym rest_tokens)),
-)
+      parts ++ Blank 32 ∷ pieces,
+      IsEntry-parts depth parts (Blank 32 ∷ pieces) are (refl, entry),
+      ap₂ (λ (t r : List ℕ). t ++ 32 ∷ r) text_is rest_is
+          ∙ sym (flat_map-append piece_octets parts (Blank 32 ∷ pieces)),
+      sym (tokens_of-gap parts (Blank 32) pieces refl
+          ∙ ap₂ (λ (a b : List (List Symbol)). a ++ b) tokens_are (sym rest_tokens)),
+    )
 
 opening_before : (depth : ℕ) (rest : List ℕ) (tokens : List (List Symbol))
     → IsRestText (suc depth) rest tokens
     → IsRestText depth (40 ∷ 32 ∷ rest) tokens
-opening_before depth rest tokens (pieces, entry, rest_is, rest_tokens) =
-    (Opening ∷ Blank 32
-        ∷ pieces, (refl, entry), ap (λ (t : List ℕ). 40 ∷ 32 ∷ t) rest_is, rest_tokens)
+opening_before depth rest tokens (pieces, entry, rest_is, rest_tokens) = (
+  Opening ∷ Blank 32
+      ∷ pieces,
+  (refl, entry),
+  ap (λ (t : List ℕ). 40 ∷ 32 ∷ t) rest_is,
+  rest_tokens,
+)
 
 closing_before : (depth : ℕ) (rest : List ℕ) (tokens : List (List Symbol))
     → IsRestText depth rest tokens
     → IsRestText (suc depth) (41 ∷ 32 ∷ rest) tokens
-closing_before depth rest tokens (pieces, entry, rest_is, rest_tokens) =
-    (Closing ∷ Blank 32
-        ∷ pieces, (refl, entry), ap (λ (t : List ℕ). 41 ∷ 32 ∷ t) rest_is, rest_tokens)
+closing_before depth rest tokens (pieces, entry, rest_is, rest_tokens) = (
+  Closing ∷ Blank 32
+      ∷ pieces,
+  (refl, entry),
+  ap (λ (t : List ℕ). 41 ∷ 32 ∷ t) rest_is,
+  rest_tokens,
+)
 
 row_again : (depth : ℕ) (words : List Word) (tokens : List (List Symbol))
     → AreWords depth words tokens → IsRestText depth (words_text words) tokens
@@ -103,18 +111,18 @@ row_again depth (Text text ∷ []) (token ∷ []) h = text_last depth text token
 row_again depth (Text text ∷ []) (token ∷ next ∷ tokens) h = absurd h.1
 row_again depth (Text text ∷ next ∷ words) (token ∷ tokens) h =
     text_before depth text token (words_text (next ∷ words)) tokens h.0
-        (row_again depth (next ∷ words) tokens h.1)
+    (row_again depth (next ∷ words) tokens h.1)
 row_again depth (OpeningBracket ∷ []) [] h = absurd (omega arith)
 row_again depth (OpeningBracket ∷ []) (token ∷ tokens) h = absurd h
 row_again depth (OpeningBracket ∷ next ∷ words) tokens h =
     opening_before depth (words_text (next ∷ words)) tokens
-        (row_again (suc depth) (next ∷ words) tokens h)
+    (row_again (suc depth) (next ∷ words) tokens h)
 row_again zero (ClosingBracket ∷ words) tokens h = absurd h
 row_again (suc depth) (ClosingBracket ∷ []) [] h = (Closing ∷ [], h, refl, refl)
 row_again (suc depth) (ClosingBracket ∷ []) (token ∷ tokens) h = absurd h
 row_again (suc depth) (ClosingBracket ∷ next ∷ words) tokens h =
     closing_before depth (words_text (next ∷ words)) tokens
-        (row_again depth (next ∷ words) tokens h)
+    (row_again depth (next ∷ words) tokens h)
 
 -- words are read back
 pub words_again : (words : List Word) (tokens : List (List Symbol)) → AreWords 0 words tokens

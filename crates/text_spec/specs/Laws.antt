@@ -31,14 +31,14 @@ FaultRead = (text : List ℕ) (fault : ScanError) → HasFault 0 text fault
 abbrev pub OctetsReadBack : Type 0
 OctetsReadBack = (octet : ℕ) (octets : List ℕ) → AreOctets (octet ∷ octets)
     → (token : List Symbol) × IsTokenText (printed_octets (octet ∷ octets)) token
-        × (octets_of token ≡ octet ∷ octets)
+    × (octets_of token ≡ octet ∷ octets)
 
 -- the printed text of a name with its final dot is wholly the text of a token that spells the name
 abbrev pub NameTextReadBack : Type 0
 NameTextReadBack = (labels : List (List ℕ)) → AreLabels 0 labels
     → AreOctets (flat_map (λ label. label) labels)
     → (token : List Symbol) × IsTokenText (printed_name_with_dot labels) token
-        × (name_of token ≡ Some labels)
+    × (name_of token ≡ Some labels)
 
 -- a text is read as exactly the octets whose base64 text it is
 abbrev pub Base64Exact : Type 0

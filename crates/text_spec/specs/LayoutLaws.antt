@@ -73,8 +73,10 @@ pub StopsWithin-first : (old : Sheet) (items more : List Item) (new : Sheet)
 StopsWithin-first old [] [] new h = h
 StopsWithin-first old [] (item ∷ more) new h = inl h
 StopsWithin-first old (item ∷ items) more new h =
-    elim h [ inl e ↦ inl e
-    | inr s ↦ inr (StopsWithin-first (laid_out old (item ∷ [])) items more new s) ]
+    elim h [
+      | inl e ↦ inl e
+      | inr s ↦ inr (StopsWithin-first (laid_out old (item ∷ [])) items more new s)
+    ]
 
 -- and so does what stops within the second
 pub StopsWithin-second : (old : Sheet) (items more : List Item) (new : Sheet)

@@ -139,7 +139,7 @@ abbrev pub laid_out : Sheet → List Item → Sheet
 laid_out sheet items =
     record { kind = sheet.kind; layout = layout_from sheet.kind items sheet.layout }
 
--- a front of the items was laid out
+-- a prefix of the items was laid out
 abbrev pub StopsWithin : Sheet → List Item → Sheet → Type 0
 StopsWithin old [] new = new ≡ old
 StopsWithin old (item ∷ items) new = (new ≡ old) ⊎ StopsWithin (laid_out old (item ∷ [])) items new

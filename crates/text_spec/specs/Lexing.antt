@@ -75,7 +75,7 @@ open_step place c rest =
     else (if c == 40 then front_of Gap (with_depth place (place.depth + 1)) 0
     else (if c == 41 then
     (if place.depth == 0 then Err BadBracket
-        else front_of Gap (with_depth place (place.depth - 1)) 0)
+    else front_of Gap (with_depth place (place.depth - 1)) 0)
     else (if c == 34 then front_of Quote (in_quotes place true) 0
     else (if is_control c then Err BadSymbol
     else symbol_step place c rest))))))

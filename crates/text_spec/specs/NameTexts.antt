@@ -22,7 +22,7 @@ abbrev pub dotted_parts : List Symbol → List (List ℕ)
 dotted_parts [] = [] ∷ []
 dotted_parts (symbol ∷ symbols) =
     if is_bare_octet 46 symbol then [] ∷ dotted_parts symbols
-        else onto_first symbol.octet (dotted_parts symbols)
+    else onto_first symbol.octet (dotted_parts symbols)
 
 -- parts without an empty last one behind another, so without what follows a final dot
 abbrev pub without_final_dot : List (List ℕ) → List (List ℕ)

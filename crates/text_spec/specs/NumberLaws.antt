@@ -16,9 +16,11 @@ back false rest h = h
 -- a text that passes the test is one line
 one_line : (text : List ℕ) → is_one_line text ≡ true → IsOneLine text
 one_line [] h = tt
-one_line (c ∷ text) h =
-    (front (c == 10) (list_any (λ d. d == 10) text) h, one_line text
-    (back (c == 10) (list_any (λ d. d == 10) text) h))
+one_line (c ∷ text) h = (
+  front (c == 10) (list_any (λ d. d == 10) text) h,
+  one_line text
+      (back (c == 10) (list_any (λ d. d == 10) text) h),
+)
 
 one_line-append : (text more : List ℕ) → IsOneLine text → IsOneLine more → IsOneLine (text ++ more)
 one_line-append [] more h k = k

@@ -95,7 +95,7 @@ IsPieceRow within ended rest (suc depth) (LineEnd ∷ pieces) =
     IsPieceRow within ended rest (suc depth) pieces
 IsPieceRow within ended rest depth (Comment text ∷ pieces) =
     IsComment text (flat_map piece_octets pieces ++ rest)
-        × IsPieceRow within ended rest depth pieces
+    × IsPieceRow within ended rest depth pieces
 IsPieceRow within ended rest depth (Opening ∷ pieces) =
     IsPieceRow within ended rest (suc depth) pieces
 IsPieceRow within ended rest zero (Closing ∷ pieces) = ⊥
@@ -138,7 +138,7 @@ tokens_of pieces = token_groups None (flat_map lexemes_of pieces)
 abbrev pub HasTokens : List ℕ → List (List Symbol) → Type 0
 HasTokens text tokens =
     (pieces : List Piece) × IsEntry 0 pieces × (text ≡ flat_map piece_octets pieces)
-        × (tokens ≡ tokens_of pieces)
+    × (tokens ≡ tokens_of pieces)
 
 -- the pieces are parts of tokens
 abbrev pub AreParts : List Piece → Type 0
@@ -151,7 +151,7 @@ AreParts (piece ∷ pieces) = ⊥
 abbrev pub IsTokenText : List ℕ → List Symbol → Type 0
 IsTokenText text token =
     (pieces : List Piece) × AreParts pieces × (text ≡ flat_map piece_octets pieces)
-        × (tokens_of pieces ≡ token ∷ [])
+    × (tokens_of pieces ≡ token ∷ [])
 
 -- ---- faults
 

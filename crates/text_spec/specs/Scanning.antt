@@ -51,8 +51,10 @@ one meaning tokens place = at_token place (next_token meaning tokens place)
 -- the first of them
 abbrev pub rest_by : {V : Type 0} → (List ℕ → Option V) → ScanError → Scanning V
 rest_by read fault tokens place =
-    elim (read (flat_map octets_of (drop place tokens))) [ None ↦ refused fault place
-        | Some x ↦ done x (length tokens) ]
+    elim (read (flat_map octets_of (drop place tokens))) [
+      | None ↦ refused fault place
+      | Some x ↦ done x (length tokens)
+    ]
 
 -- scanning, and then more from where it stopped
 abbrev pub scan_then : {A B : Type 0} → Scanned A → (A → ℕ → Scanned B) → Scanned B
@@ -82,7 +84,7 @@ is_marked tokens place =
 
 -- ---- what a call answers
 
--- A call answers as scanning does, seen by `view`. Only want of memory may stand in place of an
+-- A call answers as scanning does, seen by `view`. Only a failed allocation may stand in place of an
 -- answer.
 abbrev pub Answers : {T V : Type 0} → (T → V) → Result T ScanError → Result V ScanError → Type 0
 Answers view (Ok x) outcome = outcome ≡ Ok (view x)

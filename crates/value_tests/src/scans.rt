@@ -2,8 +2,7 @@
 
 use registry::{ComposeSvcParamValue, SvcParamValue};
 use std::alloc::Global;
-use svcb_text::{SvcParamValueScanIter, scan_param};
-use svcb_text::AllValues;
+use svcb_text::{AllValues, SvcParamValueScanIter, scan_param};
 use text_spec::ScanError;
 
 /// Whether a token spells a value of this key and these octets, and whether the value has a type.

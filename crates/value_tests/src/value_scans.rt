@@ -4,8 +4,7 @@ use crate::weight::Weight;
 use registry::{ComposeSvcParamValue, SvcParamKey, SvcParamValue};
 use std::alloc::Global;
 use svcb_list::{Alpn, Ipv4Hint, Ipv6Hint, Mandatory, TlsSupportedGroups};
-use svcb_text::ScanSvcParamValue;
-use svcb_text::AllValues;
+use svcb_text::{AllValues, ScanSvcParamValue};
 use svcb_value::{DohPath, Ech, NoDefaultAlpn, Ohttp, Port, UnknownSvcParam};
 use text_spec::ScanError;
 

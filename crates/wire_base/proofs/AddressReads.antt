@@ -29,5 +29,5 @@ ipv6_found text octets a spelled same =
 pub ipv6_none : (text : List ℕ) → ((a : Ipv6Addr) → IsIpv6Text text a → ⊥) → None ≡ ipv6_of text
 ipv6_none text never =
     none_read (ipv6_of text)
-        (λ octets read. let (segments, groups, same) = ipv6_spelled text octets read
-        in never (record { segments = segments }) groups)
+    (λ octets read. let (segments, groups, same) = ipv6_spelled text octets read
+    in never (record { segments = segments }) groups)

@@ -72,9 +72,15 @@ module _ (octets : List ℕ) (root : octets ≡ 0 ∷ []) where
 
 pub ruleset root_rules = (IsWholeName-root, labels_in-root)
 
-pub ruleset wire_rules =
-    (IsWholeName-wire, labels_in-wire, labels_of-wire, IsPlace-wire, name_fits, labels_fit,
-    is_root-wire)
+pub ruleset wire_rules = (
+  IsWholeName-wire,
+  labels_in-wire,
+  labels_of-wire,
+  IsPlace-wire,
+  name_fits,
+  labels_fit,
+  is_root-wire,
+)
 
 -- ---- reading octets that are wholly a name
 
@@ -101,9 +107,9 @@ module _ (octets : List ℕ) where
         → next ≡ length octets → IsWholeName octets
     checked_name labels next read whole =
         whole_name octets labels
-            (labels_to_end labels next read
-            ∙ ap (λ (test : Bool). if test then Ok labels else Err Form)
-            (let same : (next == length octets) ≡ true = grind (arith, nat_tests) in same))
+        (labels_to_end labels next read
+        ∙ ap (λ (test : Bool). if test then Ok labels else Err Form)
+        (let same : (next == length octets) ≡ true = grind (arith, nat_tests) in same))
 
     pub name_before : (labels : List (List ℕ)) (next : ℕ)
         → name_at octets (length octets) 0 0 0 ≡ Ok (record { labels = labels; next = next })

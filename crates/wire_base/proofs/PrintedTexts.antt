@@ -17,7 +17,7 @@ chosen : (special : ℕ → Bool) (c : ℕ) (s v : Bool) → special c ≡ s →
 unfolding printed_as
 chosen special c s v is_s is_v =
     ap (λ b. octet_text (cond b (Escaped c) (cond (is_visible c) (Plain c) (Decimal c)))) is_s
-        ∙ ap (λ b. octet_text (cond s (Escaped c) (cond b (Plain c) (Decimal c)))) is_v
+    ∙ ap (λ b. octet_text (cond s (Escaped c) (cond b (Plain c) (Decimal c)))) is_v
 
 special_ascii : (in_name : Bool) (c : ℕ) → specials in_name c ≡ true → c < 128
 special_ascii true c special = grind (arith, nat_tests)
@@ -71,7 +71,7 @@ with_final_dot label (next ∷ labels) =
     ∙ ap (λ (t : List ℕ). printed_label label ++ 46 ∷ t) (with_final_dot next labels)
     ∙ sym (append_assoc (printed_label label) (46 ∷ []) (printed_name_with_dot (next ∷ labels)))
 
--- a front of the whole text is written, and the rest is not yet
+-- a prefix of the whole text is written, and the rest is not yet
 pub record WritesFront {W : Type 0} (took : W → List ℕ → W → Type 0) (f g : Formatter W)
     (whole rest : List ℕ) : Type 0 where
   pub text : List ℕ

@@ -22,8 +22,13 @@ length-name_wire-push : (front : List (List ℕ)) (label : List ℕ)
     → length (name_wire (front ++ label ∷ [])) ≡ length (name_wire front) + length label + 1
 length-name_wire-push [] label = omega (arith, length-append label (0 ∷ []))
 length-name_wire-push (first ∷ front) label =
-    omega (arith, length-name_wire-push front label, length-append first
-        (name_wire (front ++ label ∷ [])), length-append first (name_wire front))
+    omega (
+      arith,
+      length-name_wire-push front label,
+      length-append first
+          (name_wire (front ++ label ∷ [])),
+      length-append first (name_wire front),
+    )
 
 length-slice_range : (xs : List ℕ) (a n : ℕ) → a + n ≤ length xs
     → length (slice_range xs a (a + n)) ≡ n
@@ -47,8 +52,8 @@ module _ (message : List ℕ) (end start pos octets pointers : ℕ) (next : Opti
   pub walks_over_label : (len pos' octets' : ℕ) → pos' ≡ pos + 1 + len → octets' ≡ octets + len + 1
       → pos + 1 + len ≤ length message → octets + len + 1 ≤ 254
       → name_at message end pos octets pointers
-          ≡ with_label (slice_range message (pos + 1) (pos + 1 + len))
-          (name_at message end (pos + 1 + len) (octets + len + 1) pointers)
+      ≡ with_label (slice_range message (pos + 1) (pos + 1 + len))
+      (name_at message end (pos + 1 + len) (octets + len + 1) pointers)
       → is_pointed message end pos ≡ is_pointed message end (pos + 1 + len)
       → WalksTo message end start pos' octets' pointers next
   walks_over_label len pos' octets' at_pos at_octets within fits is pointed =
@@ -59,8 +64,13 @@ module _ (message : List ℕ) (end start pos octets pointers : ℕ) (next : Opti
         read = so_far.read ∙ ap (with_front so_far.front next) is
             ∙ with_front-label so_far.front next label _;
         pointed = so_far.pointed ∙ ap (λ (rest : Bool). is_some next || rest) pointed;
-        len = omega (arith, length-name_wire-push so_far.front label, length-slice_range message
-            (pos + 1) len within, so_far.len);
+        len = omega (
+          arith,
+          length-name_wire-push so_far.front label,
+          length-slice_range message
+              (pos + 1) len within,
+          so_far.len,
+        );
         octets_fit = fits;
         pointers_fit = so_far.pointers_fit;
         in_data = so_far.in_data;

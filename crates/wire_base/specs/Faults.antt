@@ -4,7 +4,7 @@ use Rattle.name_spec.specs.Octets as spec
 use Rattle.wire_base.specs.declared.errors.ParseError.{ParseError}
 use Rattle.wire_base.specs.declared.errors.ParseError.TheVariants.{ShortInput, Form, NoMemory}
 
--- the error is the fault that reading gives; want of memory is no fault of the data, and never
+-- the error is the fault that reading gives; a failed allocation is no fault of the data, and never
 -- comes
 abbrev pub IsFaultOf : {Y : Type 0} → ParseError → Result Y spec.Fault → Type 0
 IsFaultOf ShortInput read = read ≡ Err spec.Short

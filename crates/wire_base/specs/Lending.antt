@@ -1,4 +1,4 @@
--- Octets that are lent for writing.
+-- Octets that are borrowed for writing.
 use Rattle.std.specs.Prelude.{ℕ, List, ◌++◌, length, take, drop}
 use Rattle.std.specs.Borrow.{Lends, MutBor, Fml, u8, Array}
 use Rattle.wire_base.specs.contracts.octets.Octets.{the_row}

@@ -11,7 +11,7 @@ use crate::owned_name::Name;
 use std::cmp::Ordering;
 use std::hash::{Hash, Hasher};
 
-/// Compares octets in lower case, a front of the other's octets first.
+/// Compares octets in lower case, a prefix of the other's octets first.
 fn lowercase_cmp(octets: &[u8], others: &[u8]) -> Ordering
     ensures { result ≡ slice_cmp nat_cmp
         (map to_ascii_lowercase octets.now) (map to_ascii_lowercase others.now) }

@@ -113,7 +113,7 @@ impl Eq for Octets {
     ghost laws = { Prim.search (comparing, rules) };
 }
 
-/// Octet by octet, and a front of the other's octets first.
+/// Octet by octet, and a prefix of the other's octets first.
 impl Ord for Octets {
     ghost use Rattle.std.specs.Ordering.{nat_cmp};
     ghost use Rattle.std.specs.Cmp.Lexicographic.{slice_cmp};

@@ -123,7 +123,7 @@ impl<'a> Parser<'a> {
         self.pos = self.end;
     }
 
-    /// The next octets, which are lent from the message.
+    /// The next octets, borrowed from the message.
     ///
     /// `ShortInput`: fewer remain. The parser then stays.
     pub fn parse_octets(&mut self, len: usize) -> Result<&'a [u8], ShortInput>

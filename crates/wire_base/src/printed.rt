@@ -16,7 +16,7 @@ pub struct PrintedOctets<'a> {
 }
 
 impl<'a> PrintedOctets<'a> {
-    /// The text of these octets, which are lent.
+    /// The text of these octets, borrowed.
     pub fn new(slice: &'a [u8]) -> PrintedOctets<'a>
         ensures { result.octets.now ≡ slice.now }
     {

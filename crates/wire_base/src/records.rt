@@ -108,7 +108,7 @@ pub trait CanonicalOrd {
     /// The octets in canonical form (RFC 4034, section 6.2), which are compared next, octet by octet.
     ghost canonical: { Self → List ℕ };
 
-    /// The canonical order: by `group`, and then by `canonical`, where a front of the other's octets comes first. It
+    /// The canonical order: by `group`, and then by `canonical`, where a prefix of the other's octets comes first. It
     /// takes no memory.
     fn canonical_cmp(&self, other: &Self) -> Ordering
         ensures { result ≡ canonical_order

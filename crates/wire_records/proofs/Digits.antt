@@ -46,7 +46,7 @@ unfolding encode_with
 encode_with-append t [] ys = refl
 encode_with-append t (x ∷ xs) ys =
     ap (λ (rest : List ℕ). get_or t (x / 16) 0 ∷ get_or t (x % 16) 0 ∷ rest)
-        (encode_with-append t xs ys)
+    (encode_with-append t xs ys)
 
 -- no octets have no digits
 pub none : (up : Bool) → [] ≡ base16_in up []
@@ -73,7 +73,7 @@ pub one_more : (up : Bool) (octets : List ℕ) (i : ℕ) → i < length octets
     ≡ base16_in up (take (i + 1) octets)
 one_more up octets i within =
     ap (λ (ds : List ℕ). ds ++ base16_in up (get_or octets i 0 ∷ []))
-        (sym (by_table up (take i octets)))
+    (sym (by_table up (take i octets)))
     ∙ ap (λ (ds : List ℕ). encode_with (table up) (take i octets) ++ ds)
     (sym (by_table up (get_or octets i 0 ∷ [])))
     ∙ sym (encode_with-append (table up) (take i octets) (get_or octets i 0 ∷ []))

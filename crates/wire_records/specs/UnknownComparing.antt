@@ -11,7 +11,7 @@ abbrev pub is_same_unknown : UnknownData → UnknownData → Bool
 is_same_unknown =
     eq_of_both (on (λ found. found.rtype) ◌==◌) (on (λ found. found.octets) (pointwise ◌==◌))
 
--- by type number, then octet by octet, a front of the other's octets first
+-- by type number, then octet by octet, a prefix of the other's octets first
 abbrev pub unknown_cmp : UnknownData → UnknownData → Ordering
 unknown_cmp = then_cmp (on (λ found. found.rtype) nat_cmp)
     (on (λ found. found.octets) (slice_cmp nat_cmp))

@@ -27,7 +27,7 @@ impl Eq for UnknownRecordData {
     ghost laws = { Prim.search (comparing, rules) };
 }
 
-/// By the number of the type, then octet by octet, and a front of the other's octets first.
+/// By the number of the type, then octet by octet, and a prefix of the other's octets first.
 impl Ord for UnknownRecordData {
     ghost use Rattle.std.specs.Cmp.Rules.{comparing};
     ghost use Rattle.std.proofs.Common.{rules};

@@ -14,7 +14,7 @@ returns-then-len-eq0 c =
     let len : c.label_len-len.result ≡ label_len left = c.label_len-len.ensures.len in
     let some : 0 < length left = grind (arith, nat_tests) in
     let bad : (label_len left ≡ 0)
-        ⊎ ((63 < label_len left) ⊎ (254 < length octets + label_len left + 1)) =
+    ⊎ ((63 < label_len left) ⊎ (254 < length octets + label_len left + 1)) =
     elim c.then-len-eq0.branch [
       | then-len-eq0-via-then-len-eq0 w ↦ inl (omega (arith, len, w.if-len-eq0.true))
       | then-len-eq0-via-else-len-eq0+then-len-gt-MAX_LABEL_LEN w ↦ inr
@@ -31,17 +31,17 @@ loop-symbols-preserved c =
     let len : c.label_len-len.result ≡ label_len left = c.label_len-len.ensures.len in
     let some : 0 < length left = grind (arith, nat_tests) in
     let long : length (take c.label_len-len.result left) ≡ c.label_len-len.result =
-        length-take-le c.label_len-len.result left c.label_len-len.ensures.within in
+    length-take-le c.label_len-len.result left c.label_len-len.ensures.within in
     let octets_is : c.push_label.new.octets.items
-        ≡ octets ++ label_len left ∷ octets_of (take (label_len left) left) =
+    ≡ octets ++ label_len left ∷ octets_of (take (label_len left) left) =
     c.in_ok-push_label.ensures.ok
-        ∙ ap (λ (n : ℕ). octets ++ n ∷ octets_of (take c.label_len-len.result left)) long
-        ∙ ap (λ (n : ℕ). octets ++ n ∷ octets_of (take n left)) len in
+    ∙ ap (λ (n : ℕ). octets ++ n ∷ octets_of (take c.label_len-len.result left)) long
+    ∙ ap (λ (n : ℕ). octets ++ n ∷ octets_of (take n left)) len in
     let left_is : c.skip_symbols-symbols.result.now ≡ drop (label_len left + 1) left =
-        c.skip_symbols-symbols.ensures ∙ ap (λ (n : ℕ). drop (n + 1) left) len in
+    c.skip_symbols-symbols.ensures ∙ ap (λ (n : ℕ). drop (n + 1) left) len in
     rw (octets_is, left_is)
-        (written-label c.args.token.now left octets c.loop-symbols.invariant some (omega arith)
-        (omega arith) (omega (arith, c.len.ensures)))
+    (written-label c.args.token.now left octets c.loop-symbols.invariant some (omega arith)
+    (omega arith) (omega (arith, c.len.ensures)))
 
 pub returns : goal.returns
 returns c =

@@ -11,5 +11,5 @@ returns c =
     let bytes : c.to_be_bytes.result ≡ bytes_high_first 4 c.args.number = search rules in
     behind c.to_be_bytes.result c.args.octets.now c.front_cmp-number.result.1.now more
     c.front_cmp-number.result.0 c.pair_cmp.result c.then.result c.front_cmp-number.ensures
-        c.pair_cmp.ensures c.then.ensures
+    c.pair_cmp.ensures c.then.ensures
     ∙ ap (λ (part : List ℕ). slice_cmp nat_cmp (part ++ more) c.args.octets.now) bytes

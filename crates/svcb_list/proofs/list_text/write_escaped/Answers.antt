@@ -11,7 +11,7 @@ pub returns : goal.returns
 returns g c = λ plain ok.
     let item = c.args.item.now in
     let all : take c.loop-octet.octet-index item ≡ item =
-        take_all c.loop-octet.octet-index item (omega arith) in
+    take_all c.loop-octet.octet-index item (omega arith) in
     has_written_of_eq _ _ _ _ _
     (ap (flat_map (λ octet. printed_octets (escaped_item (octet ∷ [])))) all ∙ by_octets item)
     (c.loop-octet.invariant plain)

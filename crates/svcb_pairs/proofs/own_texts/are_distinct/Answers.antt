@@ -10,7 +10,7 @@ loop-group-preserved c =
     let words = c.loop-group.met.words in
     let group = c.in-Some.group in
     let new : has_number words group ≡ false =
-        grind (arith, nat_tests, c.insert.ensures.added, c.if-not-insert.false) in
+    grind (arith, nat_tests, c.insert.ensures.added, c.if-not-insert.false) in
     c.loop-group.invariant
     ∙ ap (distinct_from words) c.in-Some.ensures.steps
     ∙ met_now words c.insert.new.self.words group c.insert.ensures.numbers

@@ -15,20 +15,20 @@ pub returns-in_err-scan_next-clause-params : goal.returns-in_err-scan_next-claus
 returns-in_err-scan_next-clause-params g c =
     let is : c.from_residual.result ≡ Err c.in_err-scan_next.field-0.0 = search rules in
     subst (λ (r : Result (List ℕ) ScanError). ScansPart pairs_in params
-        (g.S.Scanner.scan c.args.scanner.now) (g.S.Scanner.scan c.scan_next.new.scanner) r) (sym is)
+    (g.S.Scanner.scan c.args.scanner.now) (g.S.Scanner.scan c.scan_next.new.scanner) r) (sym is)
     (so_far-refused _ _ _ _ _ c.loop-alloc.invariant
-        (sym c.continues.ensures ∙ c.loop-alloc-test.true) pairs_in c.in_err-scan_next.field-0.0
-        c.in_err-scan_next.ensures)
+    (sym c.continues.ensures ∙ c.loop-alloc-test.true) pairs_in c.in_err-scan_next.field-0.0
+    c.in_err-scan_next.ensures)
 
 pub returns-then-not-has_mandatory-clause-params : goal.returns-then-not-has_mandatory-clause-params
 returns-then-not-has_mandatory-clause-params g c =
     all-missing _ _ _ c.loop-alloc.invariant (sym c.continues.ensures ∙ c.loop-alloc-test.false)
-        pairs_in (sym c.has_mandatory.ensures ∙ c.if-not-has_mandatory.true)
+    pairs_in (sym c.has_mandatory.ensures ∙ c.if-not-has_mandatory.true)
 
 pub returns-clause-params : goal.returns-clause-params
 returns-clause-params g c =
     all-read _ _ _ c.loop-alloc.invariant (sym c.continues.ensures ∙ c.loop-alloc-test.false) _
-        c.in_ok-compose.ensures (sym c.has_mandatory.ensures ∙ c.if-not-has_mandatory.false)
+    c.in_ok-compose.ensures (sym c.has_mandatory.ensures ∙ c.if-not-has_mandatory.false)
 
 pub returns-clause-are : goal.returns-clause-are
 returns-clause-are g c =

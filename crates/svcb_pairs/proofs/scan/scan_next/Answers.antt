@@ -13,17 +13,17 @@ returns g c =
     let entries = c.args.values.now.entries in
     let entries' = c.keep_token-outcome.new.values.entries in
     let scanned : Scans {T = List ℕ} (λ octets. octets) (one any_octets) old mid
-        (Ok c.in_ok-token.token) =
+    (Ok c.in_ok-token.token) =
     subst (λ (r : Result (List ℕ) ScanError). Scans (λ octets. octets) (one any_octets) old mid r)
-        c.in_ok-token.was c.scan_octets.ensures in
+    c.in_ok-token.was c.scan_octets.ensures in
     let keeps : KeepsToken c.in_ok-token.token entries entries' c.rewind_unless_ok.result =
     subst (λ (r : Result (Unit {0}) ScanError). KeepsToken c.in_ok-token.token entries entries' r)
-        (sym c.rewind_unless_ok.ensures.outcome)
+    (sym c.rewind_unless_ok.ensures.outcome)
     (subst (λ (octets : List ℕ). KeepsToken octets entries entries' c.keep_token-outcome.result)
-        c.as_slice.ensures c.keep_token-outcome.ensures) in
+    c.as_slice.ensures c.keep_token-outcome.ensures) in
     next_kept old mid (scan c.rewind_unless_ok.new.self) c.in_ok-token.token entries entries'
-        c.rewind_unless_ok.result scanned keeps
+    c.rewind_unless_ok.result scanned keeps
     (c.rewind_unless_ok.ensures.place
-        ∙ ap (λ (place : ℕ). record mid
-        { taken = cond (is_ok c.rewind_unless_ok.result) mid.taken place })
-        c.taken-place.ensures.taken)
+    ∙ ap (λ (place : ℕ). record mid
+    { taken = cond (is_ok c.rewind_unless_ok.result) mid.taken place })
+    c.taken-place.ensures.taken)

@@ -13,13 +13,17 @@ overflow_sub-start-in-Ok c =
     let l = c.loop-key in
     let begins = c.in-Ok.ensures.begins in
     let first = is_first l.rest.now c.in-Ok.key c.in-Ok.value.now c.in-Ok.behind.now
-        l.invariant.are begins in
+    l.invariant.are begins in
     let are_behind =
-        rest_are l.rest.now c.in-Ok.key c.in-Ok.value.now c.in-Ok.behind.now l.invariant.are begins
-        in
-    omega (arith, l.invariant.shorter, first_long c.args.octets.now l.rest.now c.in-Ok.behind.now
-        c.in-Ok.value.now c.in-Ok.key l.invariant.here l.invariant.shorter l.invariant.are
-        are_behind first.pairs)
+    rest_are l.rest.now c.in-Ok.key c.in-Ok.value.now c.in-Ok.behind.now l.invariant.are begins
+    in
+    omega (
+      arith,
+      l.invariant.shorter,
+      first_long c.args.octets.now l.rest.now c.in-Ok.behind.now
+          c.in-Ok.value.now c.in-Ok.key l.invariant.here l.invariant.shorter l.invariant.are
+          are_behind first.pairs,
+    )
 
 pub loop-key-preserved : goal.loop-key-preserved
 loop-key-preserved c =
@@ -39,11 +43,11 @@ loop-key-preserved c =
       so_far = next_spanned octets l.rest.now behind value c.in-Ok.key l.invariant.here
           l.invariant.shorter l.invariant.are are_behind first.pairs
           l.entries.items c.push.new.self.items start refl c.in_ok-push.ensures.items
-              l.invariant.so_far;
+          l.invariant.so_far;
       inside = next_inside octets l.rest.now behind value c.in-Ok.key l.invariant.here
           l.invariant.shorter l.invariant.are are_behind first.pairs
           l.entries.items c.push.new.self.items start refl c.in_ok-push.ensures.items
-              l.invariant.inside;
+          l.invariant.inside;
     }
 
 pub returns-clause-pairs : goal.returns-clause-pairs
@@ -51,19 +55,19 @@ returns-clause-pairs c =
     let octets = c.args.octets.now in
     let l = c.loop-key in
     let all = all_spanned octets l.rest.now l.entries.items
-        (no_pair l.rest.now l.invariant.are c.in_default.ensures.short) l.invariant.so_far in
+    (no_pair l.rest.now l.invariant.are c.in_default.ensures.short) l.invariant.so_far in
     IfOk-weaker c.map_of.result (IsFromIterResult nat_cmp l.entries.items) _
     (λ made from. ap (limited_pairs octets)
-        (made_of octets l.entries.items made (subst IsMap (sym all) c.requires.is_map) from) ∙ all)
-        c.map_of.ensures
+    (made_of octets l.entries.items made (subst IsMap (sym all) c.requires.is_map) from) ∙ all)
+    c.map_of.ensures
 
 pub returns-clause-inside : goal.returns-clause-inside
 returns-clause-inside c =
     let octets = c.args.octets.now in
     let l = c.loop-key in
     let all = all_spanned octets l.rest.now l.entries.items
-        (no_pair l.rest.now l.invariant.are c.in_default.ensures.short) l.invariant.so_far in
+    (no_pair l.rest.now l.invariant.are c.in_default.ensures.short) l.invariant.so_far in
     IfOk-weaker c.map_of.result (IsFromIterResult nat_cmp l.entries.items) _
     (λ made from. subst (AreInside (length octets) (length octets))
-        (sym (made_of octets l.entries.items made (subst IsMap (sym all) c.requires.is_map) from))
-        l.invariant.inside) c.map_of.ensures
+    (sym (made_of octets l.entries.items made (subst IsMap (sym all) c.requires.is_map) from))
+    l.invariant.inside) c.map_of.ensures

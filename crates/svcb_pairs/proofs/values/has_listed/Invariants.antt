@@ -9,6 +9,6 @@ use Rattle.svcb_pairs.proofs.values.has_listed.Given as goal
 abbrev pub invariant-loop-key : goal.invariant-loop-key
 invariant-loop-key l =
     list_all (has_entry l.values.entries) (mandatory_keys (value_of l.value))
-        ≡ list_all (has_entry l.values.entries) (numbers l.key-iterator)
+    ≡ list_all (has_entry l.values.entries) (numbers l.key-iterator)
     × (goal.iterator-loop-key).can_next l.key-iterator
     × (goal.iterator-loop-key).is_finite l.key-iterator

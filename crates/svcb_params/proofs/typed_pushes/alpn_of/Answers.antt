@@ -8,9 +8,9 @@ loop-protocol-preserved c =
     let l = c.loop-protocol in
     let protocol = c.protocol-item.result in
     let pushed : c.push.new.self ≡ l.builder ++ protocol ∷ [] =
-        c.in_ok-push.ensures.ok ∙ ap (λ p. l.builder ++ p ∷ []) c.as_slice.ensures in
+    c.in_ok-push.ensures.ok ∙ ap (λ p. l.builder ++ p ∷ []) c.as_slice.ensures in
     let is : IsProtocolLength (length protocol) =
-        rw (← c.as_slice.ensures) c.in_ok-push.ensures.answer.0 in
+    rw (← c.as_slice.ensures) c.in_ok-push.ensures.answer.0 in
     record {
       so_far = next_taken _ l.builder _ l.protocol-index protocol
           (omega arith) c.protocol-item.is pushed l.invariant.so_far;

@@ -6,10 +6,10 @@ use Rattle.svcb_params.proofs.value_iter.first_of.Goals as goal
 pub returns-in-Some-Ok : goal.returns-in-Some-Ok
 returns-in-Some-Ok g c =
     is_first_value g.V.ParseSvcParamValue.seen g.V.ParseSvcParamValue.takes
-        g.V.ParseSvcParamValue.reads (seen_params c.args.params) (Some c.in-Some-Ok.value)
-        (search rules)
+    g.V.ParseSvcParamValue.reads (seen_params c.args.params) (Some c.in-Some-Ok.value)
+    (search rules)
 
 pub returns-in_default : goal.returns-in_default
 returns-in_default g c =
     is_first_value g.V.ParseSvcParamValue.seen g.V.ParseSvcParamValue.takes
-        g.V.ParseSvcParamValue.reads (seen_params c.args.params) None (search rules)
+    g.V.ParseSvcParamValue.reads (seen_params c.args.params) None (search rules)

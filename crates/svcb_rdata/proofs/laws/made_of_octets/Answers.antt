@@ -16,5 +16,5 @@ returns g c =
     } in
     data_of_octets found c.as_slice.result.now c.as_slice-2.result.now is
     (c.as_slice.ensures.octets ∙ ap name_wire c.target.ensures)
-        (c.as_slice-2.ensures.octets ∙ ap wire c.params.ensures)
+    (c.as_slice-2.ensures.octets ∙ ap wire c.params.ensures)
     c.are_octets.ensures c.are_octets-2.ensures

@@ -20,8 +20,8 @@ pub returns-clause-replies : goal.returns-clause-replies
 returns-clause-replies c =
     rw c.from_vec.ensures
     (c.loop-push.invariant.accepted
-        ∙ accept_none value_of _ c.loop-push.push-index c.loop-push.params.builder
-        c.loop-push.replies.items (omega arith))
+    ∙ accept_none value_of _ c.loop-push.push-index c.loop-push.params.builder
+    c.loop-push.replies.items (omega arith))
 
 pub returns-clause-values : goal.returns-clause-values
 returns-clause-values c =

@@ -11,8 +11,8 @@ abbrev pub invariant-loop-push : goal.invariant-loop-push
 invariant-loop-push l = record {
   accepted : accept l.fn.params.builder.pairs l.fn.params.builder.limit (map value_of l.fn.pushes)
       ≡ with_replies l.replies.items
-          (accept l.params.builder.pairs l.params.builder.limit
-          (left_from value_of l.push-index l.pushes));
+      (accept l.params.builder.pairs l.params.builder.limit
+      (left_from value_of l.push-index l.pushes));
   values : AreValues (left_from value_of l.push-index l.pushes)
       → AreValues (map value_of l.fn.pushes);
 }

@@ -12,11 +12,11 @@ returns-in-Err c =
     let within : i < length protocols = omega arith in
     let at : item ≡ get_or protocols i item = c.protocol-item.is in
     let is : IsProtocolLength (length item) =
-        subst (λ (p : List ℕ). IsProtocolLength (length p)) (sym at)
-        (protocol_at i protocols item c.requires within) in
+    subst (λ (p : List ℕ). IsProtocolLength (length p)) (sym at)
+    (protocol_at i protocols item c.requires within) in
     let refused = rw (c.as_slice.ensures, c.loop-protocol.invariant.built) at
-        c.in-Err.ensures.answer in
+    c.in-Err.ensures.answer in
     rw c.protocol_fault.ensures
-        (push_answers c.in-Err.error (length (protocols_wire (take i protocols))) (length item)
-        (Alpn protocols) is refused
+    (push_answers c.in-Err.error (length (protocols_wire (take i protocols))) (length item)
+    (Alpn protocols) is refused
     (λ over. protocols_exceed i protocols item within at over))

@@ -7,26 +7,26 @@ pub returns-in_err-protocol-clause-answer : goal.returns-in_err-protocol-clause-
 returns-in_err-protocol-clause-answer c =
     let p = err_from_is_err_and c.from_residual.result c.from_residual.ensures.1 in
     rw (p.1, p.2)
-        (protocols_refused c.args.text.now c.loop-protocols.items c.loop-protocols.protocols.items
-        c.loop-protocols.invariant.so_far c.in_err-protocol.field-0.0
-        c.in_err-protocol.ensures.item)
+    (protocols_refused c.args.text.now c.loop-protocols.items c.loop-protocols.protocols.items
+    c.loop-protocols.invariant.so_far c.in_err-protocol.field-0.0
+    c.in_err-protocol.ensures.item)
 
 pub returns-then-len-gt255-clause-answer : goal.returns-then-len-gt255-clause-answer
 returns-then-len-gt255-clause-answer c =
     protocols_long c.args.text.now c.loop-protocols.items c.loop-protocols.protocols.items
-        c.loop-protocols.invariant.so_far c.in-Some.protocol
+    c.loop-protocols.invariant.so_far c.in-Some.protocol
     (c.in_ok-protocol.ensures.item ∙ ap (λ (o : Option (List ℕ)). Ok o) c.in-Some.is) (omega arith)
 
 pub returns-clause-answer : goal.returns-clause-answer
 returns-clause-answer c =
     protocols_end c.args.text.now c.loop-protocols.items c.loop-protocols.protocols.items
-        c.loop-protocols.invariant.so_far
+    c.loop-protocols.invariant.so_far
     (c.in_ok-protocol.ensures.item ∙ ap (λ (o : Option (List ℕ)). Ok o) c.in_default.is)
 
 pub loop-protocols-smaller : goal.loop-protocols-smaller
 loop-protocols-smaller c =
     let first = taken c.loop-protocols.items c.in-Some.protocol
-        (c.in_ok-protocol.ensures.item ∙ ap (λ (o : Option (List ℕ)). Ok o) c.in-Some.is) in
+    (c.in_ok-protocol.ensures.item ∙ ap (λ (o : Option (List ℕ)). Ok o) c.in-Some.is) in
     rw c.in_ok-protocol.ensures.ok first.shorter
 
 pub loop-protocols-preserved : goal.loop-protocols-preserved

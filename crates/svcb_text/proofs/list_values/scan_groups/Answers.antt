@@ -18,25 +18,25 @@ returns-in_err-groups c =
     let refused = rw c.new.ensures at c.in_err-groups.ensures in
     rw (p.1, p.2) (refused_first (λ value. value) c.in_err-groups.field-0.0 (groups_value text)
     (read_list (add_last read_group) [] text) (λ groups. short_value (TlsSupportedGroups groups))
-        (groups_value-list text) refused)
+    (groups_value-list text) refused)
 
 pub returns : goal.returns
 returns c =
     let text = c.args.text.now in
     let groups = c.in_ok-groups.groups.numbers.items in
     let read : read_list (add_last read_group) [] text ≡ Ok groups =
-        rw c.new.ensures at c.in_ok-groups.ensures in
+    rw c.new.ensures at c.in_ok-groups.ensures in
     let whole : groups_value text ≡ short_value (TlsSupportedGroups groups) =
     groups_value-list text
-        ∙ ap (λ (r : Result (List ℕ) ScanError). r
-        >>= λ items. short_value (TlsSupportedGroups items)) read in
+    ∙ ap (λ (r : Result (List ℕ) ScanError). r
+    >>= λ items. short_value (TlsSupportedGroups items)) read in
     let same : c.deref.result.now ≡ groups =
-        c.deref.ensures.value ∙ ap (λ v. v.items) c.into_numbers.ensures in
+    c.deref.ensures.value ∙ ap (λ v. v.items) c.into_numbers.ensures in
     let some : 0 < length groups * 2 = omega (arith, some_items read_group text groups read) in
     let count : length (numbers16_wire groups) ≡ length groups * 2 =
-        omega (arith, length-numbers_wire groups) in
+    omega (arith, length-numbers_wire groups) in
     rw whole (built_answers c.from_keys.result c.or_fault.result (TlsSupportedGroups groups)
-        (length groups * 2)
+    (length groups * 2)
     (rw same at c.from_keys.ensures.value) c.or_fault.ensures count
     (built_not_empty c.from_keys.result (length groups * 2) some
-        (rw same at c.from_keys.ensures.answer)))
+    (rw same at c.from_keys.ensures.answer)))

@@ -20,20 +20,20 @@ returns-in_err-addresses c =
     let refused = rw c.new.ensures.items at c.in_err-addresses.ensures in
     rw (p.1, p.2) (refused_first (λ value. value) c.in_err-addresses.field-0.0 (ipv6hint_value text)
     (read_list (add_last (read_address ipv6_of)) [] text)
-        (λ addresses. short_value (Ipv6Hint addresses)) (ipv6hint_value-list text) refused)
+    (λ addresses. short_value (Ipv6Hint addresses)) (ipv6hint_value-list text) refused)
 
 pub returns : goal.returns
 returns c =
     let text = c.args.text.now in
     let addresses = c.in_ok-addresses.addresses.items in
     let read : read_list (add_last (read_address ipv6_of)) [] text ≡ Ok addresses =
-        rw c.new.ensures.items at c.in_ok-addresses.ensures in
+    rw c.new.ensures.items at c.in_ok-addresses.ensures in
     let whole : ipv6hint_value text ≡ short_value (Ipv6Hint addresses) =
     ipv6hint_value-list text
-        ∙ ap (λ (r : Result (List (List ℕ)) ScanError). r
-        >>= λ items. short_value (Ipv6Hint items)) read in
+    ∙ ap (λ (r : Result (List (List ℕ)) ScanError). r
+    >>= λ items. short_value (Ipv6Hint items)) read in
     rw whole (built_answers c.from_addrs.result c.or_fault.result (Ipv6Hint addresses)
-        (length addresses * 16)
+    (length addresses * 16)
     (rw c.deref.ensures.value at c.from_addrs.ensures.value) c.or_fault.ensures
     (length-concat 16 addresses (each_listed ipv6_of 16 length-ipv6_of text addresses read))
     (rw c.deref.ensures.value at c.from_addrs.ensures.answer))

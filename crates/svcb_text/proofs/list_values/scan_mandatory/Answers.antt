@@ -18,21 +18,21 @@ returns-in_err-numbers c =
     let refused = rw c.new.ensures.empty at c.in_err-numbers.ensures in
     rw (p.1, p.2) (refused_first (λ value. value) c.in_err-numbers.field-0.0 (mandatory_value text)
     (read_list add_key [] text) (λ keys. short_value (Mandatory keys))
-        (mandatory_value-list text) refused)
+    (mandatory_value-list text) refused)
 
 pub returns : goal.returns
 returns c =
     let text = c.args.text.now in
     let keys = c.in_ok-numbers.numbers.keys in
     let read : read_list add_key [] text ≡ Ok keys =
-        rw c.new.ensures.empty at c.in_ok-numbers.ensures in
+    rw c.new.ensures.empty at c.in_ok-numbers.ensures in
     let whole : mandatory_value text ≡ short_value (Mandatory keys) =
     mandatory_value-list text
-        ∙ ap (λ (r : Result (List ℕ) ScanError). r >>= λ items. short_value (Mandatory items)) read
-        in
+    ∙ ap (λ (r : Result (List ℕ) ScanError). r >>= λ items. short_value (Mandatory items)) read
+    in
     let same : c.deref.result.now ≡ keys = c.deref.ensures.value ∙ c.in_ok-keys.ensures in
     let count : length (numbers16_wire keys) ≡ length keys * 2 =
-        omega (arith, length-numbers_wire keys) in
+    omega (arith, length-numbers_wire keys) in
     rw whole (built_answers c.from_keys.result c.or_fault.result (Mandatory keys) (length keys * 2)
     (rw same at c.from_keys.ensures.value) c.or_fault.ensures count
-        (rw same at c.from_keys.ensures.answer))
+    (rw same at c.from_keys.ensures.answer))

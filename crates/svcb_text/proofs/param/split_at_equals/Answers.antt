@@ -10,8 +10,8 @@ returns-then-c-eq61-clause-key c =
 pub returns-then-c-eq61-clause-value : goal.returns-then-c-eq61-clause-value
 returns-then-c-eq61-clause-value c =
     take_rest c.args.token.now (c.loop-i.i + 1)
-        ∙ value_text-at c.loop-i.i c.args.token.now c.loop-i.invariant
-        (omega arith) c.if-c-eq61.true
+    ∙ value_text-at c.loop-i.i c.args.token.now c.loop-i.invariant
+    (omega arith) c.if-c-eq61.true
 
 pub returns-clause-key : goal.returns-clause-key
 returns-clause-key c = key_text-all c.args.token.now (λ k h. c.loop-i.invariant k (omega arith))

@@ -19,6 +19,6 @@ returns c =
     let text = c.args.text.now in
     let same : c.in-Ok.template.now ≡ text = c.in-Ok.ensures.cases.0 in
     let answer = caused_answers c.from_text.result c.or_fault.result
-        (DohPath c.in-Ok.template.now) c.from_text.ensures.value c.or_fault.ensures
-        c.from_text.ensures.ok c.from_text.ensures.cause in
+    (DohPath c.in-Ok.template.now) c.from_text.ensures.value c.or_fault.ensures
+    c.from_text.ensures.ok c.from_text.ensures.cause in
     rw (of_text text _ (utf8_text-ok text c.in-Ok.ensures.cases.1)) (rw same at answer)

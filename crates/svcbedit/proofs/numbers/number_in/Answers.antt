@@ -10,5 +10,5 @@ returns c =
     c.starts_with.ensures.byte (omega arith) (omega arith) (λ w o h. h) in
     let unsigned = eqb-false (get_or c.args.text.now 0 0) 43 (sym first ∙ c.if-starts_with.false) in
     c.ok.ensures.value
-        ∙ decimal_number-parsed c.args.text.now c.parse.result c.parse.ensures.value.0 unsigned
-        (omega arith)
+    ∙ decimal_number-parsed c.args.text.now c.parse.result c.parse.ensures.value.0 unsigned
+    (omega arith)

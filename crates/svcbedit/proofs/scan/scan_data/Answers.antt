@@ -12,9 +12,9 @@ returns c =
     let text = c.args.text.now in
     let scanning = union_scan c.args.rtype in
     let sound : text_fault text ≡ None =
-        rw c.in_ok-from_text.ensures.answer at c.in_ok-from_text.field-0.checked in
+    rw c.in_ok-from_text.ensures.answer at c.in_ok-from_text.field-0.checked in
     let begins : c.new-scanner.result ≡ before text =
-        rw c.in_ok-from_text.ensures.answer at c.new-scanner.ensures in
+    rw c.in_ok-from_text.ensures.answer at c.new-scanner.ensures in
     entry_answers data_of_zone scanning text c.scan.result sound
     (subst (λ (old : Scan). Answers data_of_zone c.scan.result
-        (scanning old.tokens old.taken).outcome) begins c.scan.ensures.answer)
+    (scanning old.tokens old.taken).outcome) begins c.scan.ensures.answer)

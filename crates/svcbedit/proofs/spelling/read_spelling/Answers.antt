@@ -9,6 +9,12 @@ pub push_lines-requires : goal.push_lines-requires
 push_lines-requires c =
     let left : length c.octets_line.new.input ≡ length (drop 1 (drop 1 (lines c.args.input.now))) =
     ap length (c.octets_line.ensures.rest
-        ∙ ap (drop 1) (c.place_line.ensures.rest ∙ ap (drop 1) c.new-lines.ensures)) in
-    omega (arith, left, length-lines c.args.input.now, length-drop 1
-        (drop 1 (lines c.args.input.now)), length-drop 1 (lines c.args.input.now))
+    ∙ ap (drop 1) (c.place_line.ensures.rest ∙ ap (drop 1) c.new-lines.ensures)) in
+    omega (
+      arith,
+      left,
+      length-lines c.args.input.now,
+      length-drop 1
+          (drop 1 (lines c.args.input.now)),
+      length-drop 1 (lines c.args.input.now),
+    )

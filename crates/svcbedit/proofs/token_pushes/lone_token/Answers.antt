@@ -10,37 +10,37 @@ pub returns-in_err-octets : goal.returns-in_err-octets
 returns-in_err-octets c =
     let line = c.args.line.now in
     let sound : text_fault line ≡ None =
-        rw c.in_ok-from_text.ensures.answer at c.in_ok-from_text.field-0.checked in
+    rw c.in_ok-from_text.ensures.answer at c.in_ok-from_text.field-0.checked in
     let begins : c.new-scanner.result ≡ before line =
-        rw c.in_ok-from_text.ensures.answer at c.new-scanner.ensures in
+    rw c.in_ok-from_text.ensures.answer at c.new-scanner.ensures in
     let p = err_from_is_err_and c.from_residual-in_err-octets.result
-        c.from_residual-in_err-octets.ensures.1 in
+    c.from_residual-in_err-octets.ensures.1 in
     rw (p.1, p.2)
-        (lone-none line c.new-scanner.result c.scan_octets.new.self sound begins
-        c.in_err-octets.field-0.0
+    (lone-none line c.new-scanner.result c.scan_octets.new.self sound begins
+    c.in_err-octets.field-0.0
     c.in_err-octets.ensures)
 
 pub returns-in_err-check_end : goal.returns-in_err-check_end
 returns-in_err-check_end c =
     let line = c.args.line.now in
     let sound : text_fault line ≡ None =
-        rw c.in_ok-from_text.ensures.answer at c.in_ok-from_text.field-0.checked in
+    rw c.in_ok-from_text.ensures.answer at c.in_ok-from_text.field-0.checked in
     let begins : c.new-scanner.result ≡ before line =
-        rw c.in_ok-from_text.ensures.answer at c.new-scanner.ensures in
+    rw c.in_ok-from_text.ensures.answer at c.new-scanner.ensures in
     let p = err_from_is_err_and c.from_residual-in_err-check_end.result
-        c.from_residual-in_err-check_end.ensures.1 in
+    c.from_residual-in_err-check_end.ensures.1 in
     let none = lone-other line c.new-scanner.result c.scan_octets.new.self sound begins
-        c.in_ok-octets.octets
+    c.in_ok-octets.octets
     c.in_ok-octets.ensures c.in_err-check_end.ensures.left in
     rw (p.1, p.2)
-        (refused-none (λ octets. octets) c.in_err-check_end.field-0.0 (lone_token line) none)
+    (refused-none (λ octets. octets) c.in_err-check_end.field-0.0 (lone_token line) none)
 
 pub returns : goal.returns
 returns c =
     let line = c.args.line.now in
     let sound : text_fault line ≡ None =
-        rw c.in_ok-from_text.ensures.answer at c.in_ok-from_text.field-0.checked in
+    rw c.in_ok-from_text.ensures.answer at c.in_ok-from_text.field-0.checked in
     let begins : c.new-scanner.result ≡ before line =
-        rw c.in_ok-from_text.ensures.answer at c.new-scanner.ensures in
+    rw c.in_ok-from_text.ensures.answer at c.new-scanner.ensures in
     lone-read line c.new-scanner.result c.scan_octets.new.self sound begins c.in_ok-octets.octets
     c.in_ok-octets.ensures c.in_ok-check_end.ensures.ok

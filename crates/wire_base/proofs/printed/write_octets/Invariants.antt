@@ -8,5 +8,5 @@ use Rattle.wire_base.proofs.printed.write_octets.Given as goal
 abbrev pub invariant-loop-octet : goal.invariant-loop-octet
 invariant-loop-octet g l =
     IsPlainFormatter l.initial.f
-        → HasWritten g.W.Write.write_str_gives l.initial.f
-        (flat_map (printed_octet (specials l.in_name)) (take l.octet-index l.octets)) l.f
+    → HasWritten g.W.Write.write_str_gives l.initial.f
+    (flat_map (printed_octet (specials l.in_name)) (take l.octet-index l.octets)) l.f

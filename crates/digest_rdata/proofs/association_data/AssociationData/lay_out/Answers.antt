@@ -11,9 +11,9 @@ returns-in_err-lay_out-clause-shows g c =
     let F = g.F.AssociationFields in
     let numbers = numbers_items F.definition.fields (F.numbers c.self.inside.fields) in
     rw (sym c.self.view_is)
-        (shows_stopped c.args.f.now numbers
-        (Token (last_field_text F.definition.encoding c.self.inside.last) ∷ []) c.lay_out.new.f _ _
-        (search rules) c.in_err-lay_out.ensures)
+    (shows_stopped c.args.f.now numbers
+    (Token (last_field_text F.definition.encoding c.self.inside.last) ∷ []) c.lay_out.new.f _ _
+    (search rules) c.in_err-lay_out.ensures)
 
 pub returns-clause-shows : goal.returns-clause-shows
 returns-clause-shows g c =
@@ -23,7 +23,7 @@ returns-clause-shows g c =
     let told = rw (← c.self.view_is) at c.lay_out_last.ensures in
     let written = shows c.lay_out.new.f last c.lay_out_last.new.f c.lay_out_last.result told in
     let both = shows_behind c.args.f.now numbers last c.lay_out.new.f c.lay_out_last.new.f
-        c.lay_out_last.result c.in_ok-lay_out.ensures.ok written in
+    c.lay_out_last.result c.in_ok-lay_out.ensures.ok written in
     rw (sym c.self.view_is) both
 
 pub returns-clause-blocks : goal.returns-clause-blocks
@@ -31,6 +31,6 @@ returns-clause-blocks g c =
     let F = g.F.AssociationFields in
     on_ok_weaker c.lay_out_last.result
     (λ written. same_blocks F.definition.fields (F.numbers c.self.inside.fields)
-        (last_field_text F.definition.encoding c.args.self.now.last) c.args.f.now c.lay_out.new.f
-        c.lay_out_last.new.f c.in_ok-lay_out.ensures.ok written)
+    (last_field_text F.definition.encoding c.args.self.now.last) c.args.f.now c.lay_out.new.f
+    c.lay_out_last.new.f c.in_ok-lay_out.ensures.ok written)
     c.lay_out_last.ensures.ok

@@ -7,6 +7,6 @@ pub returns : goal.returns
 returns g c =
     let F = g.F.AssociationFields in
     c.cmp.ensures
-        ∙ sym (data_order F.definition (data_of F.numbers c.args.self.now)
-        (data_of F.numbers c.args.other.now) (rw (sym c.self.view_is) c.numbers_fit.ensures)
-        (rw (sym c.other.view_is) c.numbers_fit-2.ensures))
+    ∙ sym (data_order F.definition (data_of F.numbers c.args.self.now)
+    (data_of F.numbers c.args.other.now) (rw (sym c.self.view_is) c.numbers_fit.ensures)
+    (rw (sym c.other.view_is) c.numbers_fit-2.ensures))

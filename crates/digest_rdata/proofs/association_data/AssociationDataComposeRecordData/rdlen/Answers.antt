@@ -9,7 +9,7 @@ returns-clause-is_data g c =
     let found = c.args.self.now in
     let fixed = g.met.F.AssociationFields.wire_len found.fields in
     let whole = length-append (numbers_wire F.definition.fields (F.numbers found.fields))
-        found.last in
+    found.last in
     record {
       numbers = rw (sym c.fields.ensures) c.numbers_fit.ensures;
       octets = rw (sym c.last.ensures, sym c.as_slice.ensures) c.octets_fit.ensures;

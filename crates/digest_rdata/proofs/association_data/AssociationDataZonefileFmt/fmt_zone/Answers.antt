@@ -9,7 +9,7 @@ use Rattle.digest_rdata.proofs.association_data.AssociationDataZonefileFmt.fmt_z
 pub returns-in_err-lay_out : goal.returns-in_err-lay_out
 returns-in_err-lay_out g c =
     shows_behind c.args.f.now (BlockBegin ∷ []) _ c.begin_block.new.self _ _
-        c.in_ok-begin_block.ensures.ok
+    c.in_ok-begin_block.ensures.ok
     (shows_stopped _ _ _ _ _ _ (search rules) c.in_err-lay_out.ensures.shows)
 
 pub returns : goal.returns
@@ -18,6 +18,6 @@ returns g c =
     let items = data_items F.definition (data_of F.numbers c.args.self.now) in
     let begun = c.in_ok-begin_block.ensures.ok in
     let mid = c.in_ok-lay_out.ensures.shows.ok ∙ ap (λ (s : Sheet). laid_out s items) begun
-        ∙ laid_out-append c.args.f.now (BlockBegin ∷ []) items in
+    ∙ laid_out-append c.args.f.now (BlockBegin ∷ []) items in
     shows_behind c.args.f.now (BlockBegin ∷ items) (BlockEnd ∷ []) c.lay_out.new.f _ _ mid
-        (shows _ _ _ _ c.end_block.ensures)
+    (shows _ _ _ _ c.end_block.ensures)

@@ -18,7 +18,7 @@ read_whole (Some lexeme) before after fault end taken same = absurd cc
 pub returns-in_err-next-clause-only : goal.returns-in_err-next-clause-only
 returns-in_err-next-clause-only c = λ tokens has.
     let refused : text_fault c.args.text.now ≡ Some c.in_err-next.field-0.0 =
-        sym c.loop.invariant ∙ ap fault_of c.in_err-next.ensures.taken in
+    sym c.loop.invariant ∙ ap fault_of c.in_err-next.ensures.taken in
     let sound = (has_tokens c.args.text.now tokens has).0 in
     let both = sym sound ∙ refused in
     absurd cc
@@ -26,14 +26,14 @@ returns-in_err-next-clause-only c = λ tokens has.
 pub returns-in_err-next-clause-fault : goal.returns-in_err-next-clause-fault
 returns-in_err-next-clause-fault c =
     let refused : text_fault c.args.text.now ≡ Some c.in_err-next.field-0.0 =
-        sym c.loop.invariant ∙ ap fault_of c.in_err-next.ensures.taken in
+    sym c.loop.invariant ∙ ap fault_of c.in_err-next.ensures.taken in
     let fault = err_from_is_err_and c.from_residual.result c.from_residual.ensures.1 in
     rw (fault.1, fault.2) (fault_found c.args.text.now c.in_err-next.field-0.0 refused)
 
 pub returns-in_err-next-clause-refused : goal.returns-in_err-next-clause-refused
 returns-in_err-next-clause-refused c = λ fault has.
     let refused : text_fault c.args.text.now ≡ Some c.in_err-next.field-0.0 =
-        sym c.loop.invariant ∙ ap fault_of c.in_err-next.ensures.taken in
+    sym c.loop.invariant ∙ ap fault_of c.in_err-next.ensures.taken in
     let is = err_from_is_err_and c.from_residual.result c.from_residual.ensures.1 in
     let same = sym refused ∙ has_fault c.args.text.now fault has in
     rw (is.1, is.2) cc
@@ -41,8 +41,8 @@ returns-in_err-next-clause-refused c = λ fault has.
 pub returns-clause-tokens : goal.returns-clause-tokens
 returns-clause-tokens c =
     let sound : text_fault c.args.text.now ≡ None =
-        read_whole c.in_ok-next.field-0 _ _ (text_fault c.args.text.now)
-        (sym c.if-is_some.ensures) c.in_ok-next.ensures.taken c.loop.invariant in
+    read_whole c.in_ok-next.field-0 _ _ (text_fault c.args.text.now)
+    (sym c.if-is_some.ensures) c.in_ok-next.ensures.taken c.loop.invariant in
     tokens_found c.args.text.now sound
 
 pub returns-clause-only : goal.returns-clause-only
@@ -51,7 +51,7 @@ returns-clause-only c = λ tokens has. (refl, (has_tokens c.args.text.now tokens
 pub returns-clause-refused : goal.returns-clause-refused
 returns-clause-refused c = λ fault has.
     let sound : text_fault c.args.text.now ≡ None =
-        read_whole c.in_ok-next.field-0 _ _ (text_fault c.args.text.now)
-        (sym c.if-is_some.ensures) c.in_ok-next.ensures.taken c.loop.invariant in
+    read_whole c.in_ok-next.field-0 _ _ (text_fault c.args.text.now)
+    (sym c.if-is_some.ensures) c.in_ok-next.ensures.taken c.loop.invariant in
     let both = sym sound ∙ has_fault c.args.text.now fault has in
     absurd cc

@@ -4,5 +4,8 @@ use Rattle.dns_text.proofs.entry_scanner.EntryScanner.new.Goals as goal
 
 pub invariant_of-result : goal.invariant_of-result
 invariant_of-result c =
-    record { left = c.new.ensures; within = omega arith;
-    short = omega (arith, length-tokens c.args.entry.text.now) }
+    record {
+      left = c.new.ensures;
+      within = omega arith;
+      short = omega (arith, length-tokens c.args.entry.text.now);
+    }

@@ -7,25 +7,25 @@ pub returns-in_err-end_at-clause-taken : goal.returns-in_err-end_at-clause-taken
 returns-in_err-end_at-clause-taken c =
     let fault = err_from_is_err_and c.from_residual.result c.from_residual.ensures.1 in
     rw (fault.1, fault.2)
-        (lexemes_at-end c.args.self.now.place c.args.self.now.rest.now c.in_default.ensures.cases
-        ∙ c.in_err-end_at.ensures)
+    (lexemes_at-end c.args.self.now.place c.args.self.now.rest.now c.in_default.ensures.cases
+    ∙ c.in_err-end_at.ensures)
 
 pub returns-in_default-clause-taken : goal.returns-in_default-clause-taken
 returns-in_default-clause-taken c =
     let end = lexemes_at-end c.args.self.now.place c.args.self.now.rest.now
-        c.in_default.ensures.cases ∙ c.in_ok-end_at.ensures in
+    c.in_default.ensures.cases ∙ c.in_ok-end_at.ensures in
     (end, end)
 
 pub returns-in_err-front-clause-taken : goal.returns-in_err-front-clause-taken
 returns-in_err-front-clause-taken c =
     let fault = err_from_is_err_and c.from_residual-in_err-front.result
-        c.from_residual-in_err-front.ensures.1 in
+    c.from_residual-in_err-front.ensures.1 in
     rw (fault.1, fault.2)
     (lexemes_at-refused c.args.self.now.place c.in-Some.first.now c.in-Some.rest.now
-        c.args.self.now.rest.now _ c.in-Some.ensures.cases.0 c.in_err-front.ensures.value)
+    c.args.self.now.rest.now _ c.in-Some.ensures.cases.0 c.in_err-front.ensures.value)
 
 pub returns-clause-taken : goal.returns-clause-taken
 returns-clause-taken c =
     lexemes_at-read c.args.self.now.place c.in-Some.first.now c.in-Some.rest.now
-        c.args.self.now.rest.now c.in_ok-front.front c.in-Some.ensures.cases.0
-        c.in_ok-front.ensures.value
+    c.args.self.now.rest.now c.in_ok-front.front c.in-Some.ensures.cases.0
+    c.in_ok-front.ensures.value

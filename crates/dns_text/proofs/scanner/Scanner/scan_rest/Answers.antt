@@ -13,18 +13,18 @@ loop-alloc-preserved g c =
     let next = c.in_ok-next.next in
     let scanned : Scans {T = List ℕ} (λ octets. octets) (one any_octets) before after (Ok next) =
     subst (λ (r : Result (List ℕ) ScanError). Scans (λ octets. octets)
-        (one any_octets) before after r) (sym c.in_ok-next.ensures.outcome)
-        c.scan_octets-next.ensures in
+    (one any_octets) before after r) (sym c.in_ok-next.ensures.outcome)
+    c.scan_octets-next.ensures in
     let joined : AreJoined (scan c.args.self.now) after (c.loop-alloc.octets.items ++ next) =
-        joined-next (scan c.args.self.now) before after c.loop-alloc.octets.items next
-        c.loop-alloc.invariant.joined (sym c.continues.ensures ∙ c.loop-alloc-test.true) scanned in
+    joined-next (scan c.args.self.now) before after c.loop-alloc.octets.items next
+    c.loop-alloc.invariant.joined (sym c.continues.ensures ∙ c.loop-alloc-test.true) scanned in
     let place : scan c.rewind_unless_ok-in-loop-alloc.new.self ≡ after =
-        c.in_ok-rewind_unless_ok.ensures.place ∙ c.in_ok-next.ensures.place in
+    c.in_ok-rewind_unless_ok.ensures.place ∙ c.in_ok-next.ensures.place in
     let octets : c.append_octets-appended.new.target.items ≡ c.loop-alloc.octets.items ++ next =
     subst (λ (r : Result (Unit {0}) ScanError). OnOk r
-        (c.append_octets-appended.new.target.items
-        ≡ c.loop-alloc.octets.items ++ c.as_slice.result.now))
-        (sym c.in_ok-rewind_unless_ok.ensures.outcome) c.append_octets-appended.ensures.ok
+    (c.append_octets-appended.new.target.items
+    ≡ c.loop-alloc.octets.items ++ c.as_slice.result.now))
+    (sym c.in_ok-rewind_unless_ok.ensures.outcome) c.append_octets-appended.ensures.ok
     ∙ ap (λ (n : List ℕ). c.loop-alloc.octets.items ++ n) c.as_slice.ensures in
     record {
       began = c.loop-alloc.invariant.began;

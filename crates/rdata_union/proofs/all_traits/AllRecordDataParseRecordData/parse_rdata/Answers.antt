@@ -11,10 +11,10 @@ returns-in_err-found-clause-answer c =
     let made : c.from_residual.result ≡ Err c.in_err-found.field-0.0 = search rules in
     subst (λ result. DataAnswers data_of_all result true read) (sym made)
     (fault_answers data_of_all data_of_all c.in_err-found.field-0.0 read
-        c.in_err-found.ensures.answer)
+    c.in_err-found.ensures.answer)
 
 pub returns-clause-answer : goal.returns-clause-answer
 returns-clause-answer c =
     let read = union_read c.args.rtype c.args.parser.now in
     some_answers data_of_all data_of_all c.in_ok-found.found c.in_ok-found.found read
-        c.in_ok-found.ensures.answer refl
+    c.in_ok-found.ensures.answer refl

@@ -18,11 +18,11 @@ loop-item-init g c = λ plain.
     ∙ ap (λ o. first ∷ map g.T.ListItems.text (items o))
     (sym c.into_iter-item-iterator.ensures.into_iter_gives) in
     let value_is : value_printed (g.T.ListType.value octets)
-        ≡ with_items key (map g.T.ListItems.text (items octets)) =
+    ≡ with_items key (map g.T.ListItems.text (items octets)) =
     ap value_printed (laws.lists octets) ∙ laws.prints (items octets) in
     let keyed = has_written_of_eq _ _ _ (key ++ 61 ∷ []) _
-        (ap (λ n. key_name n ++ 61 ∷ []) c.key.ensures)
-        (c.in_ok-write.ensures.writes plain (refl {a = true})) in
+    (ap (λ n. key_name n ++ 61 ∷ []) c.key.ensures)
+    (c.in_ok-write.ensures.writes plain (refl {a = true})) in
     record {
       text = (key ++ 61 ∷ []) ++ first;
       wrote = has_written_append _ _ _ _ _ _ keyed

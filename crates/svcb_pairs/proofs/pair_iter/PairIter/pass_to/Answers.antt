@@ -6,4 +6,4 @@ pub returns-then-passed-key-clause-found : goal.returns-then-passed-key-clause-f
 returns-then-passed-key-clause-found c =
     let rest = c.loop-passed.self-inside.rest in
     sym (not_here rest.slice.now _ _ _ c.in-Some.ensures c.args.key rest.are_parameters
-        (omega arith)) ∙ c.loop-passed.invariant.found
+    (omega arith)) ∙ c.loop-passed.invariant.found

@@ -10,7 +10,7 @@ abbrev pub invariant-loop-pair : goal.invariant-loop-pair
 invariant-loop-pair l =
     let pairs = pairs_in l.self.slice.now in
     let rest = map (λ text. Token text) (map (pair_printed pairs) l.pair-iterator) ++ BlockEnd ∷ []
-        in
+    in
     record {
       lays : LaysOut l.fn.f (params_document pairs) l.f rest;
       inside : 0 < l.f.layout.blocks;

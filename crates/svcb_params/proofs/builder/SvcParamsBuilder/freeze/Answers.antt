@@ -9,8 +9,8 @@ pub from_checked_octets-requires : goal.from_checked_octets-requires
 from_checked_octets-requires c =
     let pairs = (builder_state [] c.self.inside.pairs).pairs in
     is_written pairs _ c.self.invariant.builder.is_map
-        (c.from_vec.ensures ∙ c.in_ok-compose.ensures.appends.ok
-        ∙ ap (λ front. front ++ wire pairs) c.in_ok-octets.ensures.items)
+    (c.from_vec.ensures ∙ c.in_ok-compose.ensures.appends.ok
+    ∙ ap (λ front. front ++ wire pairs) c.in_ok-octets.ensures.items)
 
 pub returns : goal.returns
 returns c =

@@ -7,6 +7,6 @@ use Rattle.svcb_params.proofs.params.SvcParams.from_values.Goals as goal
 pub returns-in_err-op-clause-err : goal.returns-in_err-op-clause-err
 returns-in_err-op-clause-err g c =
     passed_on _ c.in_err-op.field-0.0
-        (λ error. (left : BuilderState)
-        × FnOnceReturnsAtMut g.F.FnOnce c.args.op empty_builder (Err error) left) (search rules)
-        (c.op.new.arg2, search rules)
+    (λ error. (left : BuilderState)
+    × FnOnceReturnsAtMut g.F.FnOnce c.args.op empty_builder (Err error) left) (search rules)
+    (c.op.new.arg2, search rules)

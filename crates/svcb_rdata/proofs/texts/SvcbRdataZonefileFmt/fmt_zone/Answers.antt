@@ -14,19 +14,19 @@ returns-in_err-write_show g c =
     let found = c.args.self.now in
     let pairs = c.params.result.now in
     let before = parts_laid_out found c.args.f.now c.begin_block.new.self c.write_decimal.new.self
-        c.write_comment.new.self c.write_name.new.self c.write_comment-2.new.self
+    c.write_comment.new.self c.write_name.new.self c.write_comment-2.new.self
     c.from.result c.target.result.now (c.from.ensures ∙ c.priority.ensures) c.target.ensures
-        c.in_ok-begin_block.ensures.ok c.in_ok-write_decimal.ensures.ok
-        c.in_ok-write_comment.ensures.ok c.in_ok-write_name.ensures.ok
-        c.in_ok-write_comment-2.ensures.ok in
+    c.in_ok-begin_block.ensures.ok c.in_ok-write_decimal.ensures.ok
+    c.in_ok-write_comment.ensures.ok c.in_ok-write_name.ensures.ok
+    c.in_ok-write_comment-2.ensures.ok in
     let refused : IsErr c.from_residual-in_err-write_show.result = cc in
     subst (λ ps. Shows c.args.f.now (parts found ++ params_document ps ++ BlockEnd ∷ [])
-        c.write_show.new.self c.from_residual-in_err-write_show.result) c.params.ensures
+    c.write_show.new.self c.from_residual-in_err-write_show.result) c.params.ensures
     (shows_stopped c.args.f.now (parts found ++ params_document pairs)
-        (BlockEnd ∷ []) c.write_show.new.self c.in_err-write_show.field-0.0
+    (BlockEnd ∷ []) c.write_show.new.self c.in_err-write_show.field-0.0
     c.from_residual-in_err-write_show.result refused
     (shows_behind c.args.f.now (parts found) (params_document pairs) c.write_comment-2.new.self
-        c.write_show.new.self _ before c.in_err-write_show.ensures))
+    c.write_show.new.self _ before c.in_err-write_show.ensures))
 
 -- src/texts.rt:68:9
 pub end_block-requires : goal.end_block-requires
@@ -34,16 +34,16 @@ end_block-requires g c =
     let found = c.args.self.now in
     let pairs = c.params.result.now in
     let before = parts_laid_out found c.args.f.now c.begin_block.new.self c.write_decimal.new.self
-        c.write_comment.new.self c.write_name.new.self c.write_comment-2.new.self
+    c.write_comment.new.self c.write_name.new.self c.write_comment-2.new.self
     c.from.result c.target.result.now (c.from.ensures ∙ c.priority.ensures) c.target.ensures
-        c.in_ok-begin_block.ensures.ok c.in_ok-write_decimal.ensures.ok
-        c.in_ok-write_comment.ensures.ok c.in_ok-write_name.ensures.ok
-        c.in_ok-write_comment-2.ensures.ok in
+    c.in_ok-begin_block.ensures.ok c.in_ok-write_decimal.ensures.ok
+    c.in_ok-write_comment.ensures.ok c.in_ok-write_name.ensures.ok
+    c.in_ok-write_comment-2.ensures.ok in
     let open_blocks : c.write_comment-2.new.self.layout.blocks ≡ c.args.f.now.layout.blocks + 1 =
-        ap (λ sheet. sheet.layout.blocks) before in
+    ap (λ sheet. sheet.layout.blocks) before in
     let same : c.write_show.new.self.layout.blocks ≡ c.write_comment-2.new.self.layout.blocks =
     same_blocks c.write_comment-2.new.self (params_document pairs) c.write_show.new.self
-        (document-params pairs) c.in_ok-write_show.ensures.ok in
+    (document-params pairs) c.in_ok-write_show.ensures.ok in
     omega (arith, open_blocks, same)
 
 -- src/texts.rt:61:5
@@ -52,17 +52,17 @@ returns g c =
     let found = c.args.self.now in
     let pairs = c.params.result.now in
     let before = parts_laid_out found c.args.f.now c.begin_block.new.self c.write_decimal.new.self
-        c.write_comment.new.self c.write_name.new.self c.write_comment-2.new.self
+    c.write_comment.new.self c.write_name.new.self c.write_comment-2.new.self
     c.from.result c.target.result.now (c.from.ensures ∙ c.priority.ensures) c.target.ensures
-        c.in_ok-begin_block.ensures.ok c.in_ok-write_decimal.ensures.ok
-        c.in_ok-write_comment.ensures.ok c.in_ok-write_name.ensures.ok
-        c.in_ok-write_comment-2.ensures.ok in
+    c.in_ok-begin_block.ensures.ok c.in_ok-write_decimal.ensures.ok
+    c.in_ok-write_comment.ensures.ok c.in_ok-write_name.ensures.ok
+    c.in_ok-write_comment-2.ensures.ok in
     let all = (shows_behind c.args.f.now (parts found)
-        (params_document pairs) c.write_comment-2.new.self c.write_show.new.self _ before
-        c.in_ok-write_show.ensures).ok in
+    (params_document pairs) c.write_comment-2.new.self c.write_show.new.self _ before
+    c.in_ok-write_show.ensures).ok in
     subst (λ ps. Shows c.args.f.now (parts found ++ params_document ps ++ BlockEnd ∷ [])
-        c.end_block.new.self c.end_block.result) c.params.ensures
+    c.end_block.new.self c.end_block.result) c.params.ensures
     (shows_behind c.args.f.now (parts found ++ params_document pairs)
-        (BlockEnd ∷ []) c.write_show.new.self c.end_block.new.self c.end_block.result all
+    (BlockEnd ∷ []) c.write_show.new.self c.end_block.new.self c.end_block.result all
     (shows c.write_show.new.self (BlockEnd ∷ []) c.end_block.new.self c.end_block.result
-        c.end_block.ensures))
+    c.end_block.ensures))

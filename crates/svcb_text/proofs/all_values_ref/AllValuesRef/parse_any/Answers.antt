@@ -8,19 +8,19 @@ returns-in-Ok-Some c =
     let key = c.args.key in
     let octets = c.args.slice.now in
     some_value key octets _ (whole_value octets (take_value key octets))
-        (rw c.in-Ok-Some.field-0-is at c.in-Ok-Some.ensures)
+    (rw c.in-Ok-Some.field-0-is at c.in-Ok-Some.ensures)
 
 pub returns-in-Ok-None : goal.returns-in-Ok-None
 returns-in-Ok-None c =
     let key = c.args.key in
     let octets = c.args.slice.now in
     (rw c.unwrap-unknown.ensures at c.new.ensures.view)
-        ∙ no_value key octets (whole_value octets (take_value key octets))
-        (rw c.in-Ok-None.field-0-is at c.in-Ok-None.ensures)
+    ∙ no_value key octets (whole_value octets (take_value key octets))
+    (rw c.in-Ok-None.field-0-is at c.in-Ok-None.ensures)
 
 pub returns-in-Err : goal.returns-in-Err
 returns-in-Err c =
     let key = c.args.key in
     let octets = c.args.slice.now in
     (rw c.unwrap-unknown.ensures at c.new.ensures.view)
-        ∙ refused key octets _ (whole_value octets (take_value key octets)) c.in-Err.ensures
+    ∙ refused key octets _ (whole_value octets (take_value key octets)) c.in-Err.ensures

@@ -8,20 +8,20 @@ pub returns-then-not-branch : goal.returns-then-not-branch
 returns-then-not-branch c =
     let n = c.in_ok-number.number in
     let there : has c.args.self.known.keys n ≡ true =
-        set_had c.args.self.known.keys n c.in_ok-insert.field-0 c.in_ok-insert.ensures.added
-        c.if-not-branch.true in
+    set_had c.args.self.known.keys n c.in_ok-insert.field-0 c.in_ok-insert.ensures.added
+    c.if-not-branch.true in
     read_group-there c.args.self.numbers.items c.args.text.now n
-        (spelled BadNumber c.from_text.result _ n c.from_text.ensures c.in_ok-number.ensures.value)
+    (spelled BadNumber c.from_text.result _ n c.from_text.ensures c.in_ok-number.ensures.value)
     (sym (c.args.self.same n) ∙ there)
 
 pub returns : goal.returns
 returns c =
     let n = c.in_ok-number.number in
     let new : has c.args.self.known.keys n ≡ false =
-        set_took c.args.self.known.keys n c.in_ok-insert.field-0 c.in_ok-insert.ensures.added
-        c.if-not-branch.false in
+    set_took c.args.self.known.keys n c.in_ok-insert.field-0 c.in_ok-insert.ensures.added
+    c.if-not-branch.false in
     read_group-new c.args.self.numbers.items c.args.text.now n
-        (spelled BadNumber c.from_text.result _ n c.from_text.ensures c.in_ok-number.ensures.value)
+    (spelled BadNumber c.from_text.result _ n c.from_text.ensures c.in_ok-number.ensures.value)
     (sym (c.args.self.same n) ∙ new)
     ∙ ap (λ (numbers : List ℕ). Ok numbers) (sym c.in_ok-push.ensures.items)
 
@@ -29,8 +29,8 @@ pub invariant_of-result : goal.invariant_of-result
 invariant_of-result c =
     let n = c.in_ok-number.number in
     let new : has c.args.self.known.keys n ≡ false =
-        set_took c.args.self.known.keys n c.in_ok-insert.field-0 c.in_ok-insert.ensures.added
-        c.if-not-branch.false in
+    set_took c.args.self.known.keys n c.in_ok-insert.field-0 c.in_ok-insert.ensures.added
+    c.if-not-branch.false in
     record {
       same = λ m.
           ap (λ (keys : List ℕ). has keys m) c.in_ok-insert.ensures.keys

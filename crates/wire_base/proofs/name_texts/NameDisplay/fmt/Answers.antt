@@ -9,8 +9,11 @@ loop-label-init g c = λ plain.
     let first = c.in-Some.first.now in
     let others = c.into_iter-label-iterator.result in
     let name_is : c.args.self.now ≡ first ∷ others =
-        cc (c.labels-labels.ensures.labels, c.in-Some.ensures.steps,
-        c.into_iter-label-iterator.ensures.into_iter_gives) in
+    cc (
+      c.labels-labels.ensures.labels,
+      c.in-Some.ensures.steps,
+      c.into_iter-label-iterator.ensures.into_iter_gives,
+    ) in
     record {
       text = printed_label first;
       wrote = c.in_ok-write.ensures.writes plain refl;
@@ -27,7 +30,7 @@ loop-label-preserved g c = λ plain.
           (c.in_ok-write-2.ensures.writes front.wrote.plain refl);
       whole_is =
           append_assoc front.text (46 ∷ printed_label label)
-              (dots_and_labels c.next-in-loop-label.new.self)
+          (dots_and_labels c.next-in-loop-label.new.self)
           ∙ ap (λ (t : List ℕ). front.text ++ t)
           (sym (ap dots_and_labels c.in-Some-label.ensures.steps))
           ∙ front.whole_is;

@@ -6,5 +6,5 @@ use Rattle.wire_base.proofs.name_texts.NameDisplay.fmt.Given as goal
 abbrev pub invariant-loop-label : goal.invariant-loop-label
 invariant-loop-label g l =
     IsPlainFormatter l.fn.f
-        → WritesFront g.W.Write.write_str_gives l.fn.f l.f (printed_name l.self)
-        (dots_and_labels l.label-iterator)
+    → WritesFront g.W.Write.write_str_gives l.fn.f l.f (printed_name l.self)
+    (dots_and_labels l.label-iterator)

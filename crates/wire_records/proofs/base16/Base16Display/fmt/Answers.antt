@@ -11,6 +11,6 @@ pub loop-octet-preserved : goal.loop-octet-preserved
 loop-octet-preserved g c = λ plain.
     let front = c.loop-octet.invariant plain in
     has_written_of_eq _ _ _ _ _
-        (one_more c.args.self.now.is_upper c.args.self.now.octets.now c.loop-octet.octet-index
-        (omega arith))
+    (one_more c.args.self.now.is_upper c.args.self.now.octets.now c.loop-octet.octet-index
+    (omega arith))
     (has_written_append _ _ _ _ _ _ front (c.in_ok-write.ensures.writes front.plain refl))
