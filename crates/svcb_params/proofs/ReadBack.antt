@@ -5,7 +5,7 @@ use Rattle.std.specs.Result.{result_ok}
 use Rattle.name_spec.specs.Octets.{Fault}
 use Rattle.svcb_spec.specs.Params.{Pairs}
 use Rattle.svcb_spec.specs.Values.{Value, Each, key_of, encode, IsValue, is_own_type}
-use Rattle.svcb_spec.specs.ReadingValues.{take_value, whole_value}
+use Rattle.svcb_spec.specs.ReadingValues.{take_value, whole_taken}
 use Rattle.svcb_spec.proofs.RebuildLaws.{value_at-put}
 use Rattle.svcb_spec.proofs.ValueLaws.{values_read_back}
 use Rattle.wire_base.specs.declared.errors.ParseError.{ParseError}
@@ -29,11 +29,11 @@ with_item-append (Ok value) all front back ok is = ap (λ others. Ok value ∷ o
 with_item-append (Err fault) all front back ok is = absurd (false≢true ok)
 
 pub read_through : (front back : Pairs) (value : Value) → IsValue value → is_own_type value ≡ true
-    → Each (λ pair. IsOk (whole_value pair.1 (take_value pair.0 pair.1))) front
+    → Each (λ pair. IsOk (whole_taken pair.1 (take_value pair.0 pair.1))) front
     → all_items (front ++ (key_of value, encode value) ∷ back)
     ≡ all_items front ++ Ok value ∷ all_items back
 read_through [] back value is own read =
     ap (λ read. with_item read (all_items back)) (values_read_back value is own)
 read_through (pair ∷ front) back value is own read =
-    with_item-append (whole_value pair.1 (take_value pair.0 pair.1)) _ _ _ read.0
+    with_item-append (whole_taken pair.1 (take_value pair.0 pair.1)) _ _ _ read.0
     (read_through front back value is own read.1)

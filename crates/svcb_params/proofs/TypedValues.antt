@@ -9,7 +9,7 @@ use Rattle.name_spec.specs.Octets.{Fault}
 use Rattle.name_spec.specs.Taking.{Taken}
 use Rattle.svcb_spec.specs.Params.{Pair, Pairs, value_at}
 use Rattle.svcb_spec.specs.Values.{Value}
-use Rattle.svcb_spec.specs.ReadingValues.{take_value, whole_value}
+use Rattle.svcb_spec.specs.ReadingValues.{take_value, whole_taken}
 use Rattle.wire_base.specs.declared.errors.ParseError.{ParseError}
 use Rattle.svcb_params.specs.Items.{with_item, items, first_value, whole_value_in, typed_at, TakesOnly, IsFirst}
 
@@ -33,13 +33,13 @@ module _ {Seen : Type 0} (takes : ℕ → Bool) (reads : ℕ → List ℕ → Re
   first_under [] = refl
   first_under (pair ∷ pairs) =
       let others = items takes reads pairs in
-      let read = whole_value pair.1 (reads pair.0 pair.1) in
+      let read = whole_taken pair.1 (reads pair.0 pair.1) in
       elim (cases_eq pair.0 key) [
         | inl same ↦
             let taken : takes pair.0 ≡ true = only pair.0 ∙ grind (arith, nat_tests) in
             ap (λ t. first_value (cond t (with_item read others) others)) taken
             ∙ first_with_item read others
-            ∙ ap (λ k. result_ok (whole_value pair.1 (reads k pair.1))) same
+            ∙ ap (λ k. result_ok (whole_taken pair.1 (reads k pair.1))) same
             ∙ sym (ap (whole_value_in (reads key)) (found key pair pairs same))
         | inr apart ↦
             let taken : takes pair.0 ≡ false = only pair.0 ∙ grind (arith, nat_tests) in
@@ -74,7 +74,7 @@ same_reading : (reads others : List ℕ → Result (Taken Value) Fault)
     → whole_value_in reads octets ≡ whole_value_in others octets
 same_reading reads others same None = refl
 same_reading reads others same (Some octets) =
-    ap (λ read. result_ok (whole_value octets read)) (same octets)
+    ap (λ read. result_ok (whole_taken octets read)) (same octets)
 
 -- a type that reads octets as the key's type does
 pub first_typed : (key : ℕ) (reads : ℕ → List ℕ → Result (Taken Value) Fault)

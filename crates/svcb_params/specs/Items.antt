@@ -5,7 +5,7 @@ use Rattle.name_spec.specs.Octets.{Fault}
 use Rattle.svcb_spec.specs.Params.{Pairs, value_at}
 use Rattle.svcb_spec.specs.Values as values
 use Rattle.name_spec.specs.Taking.{Taken}
-use Rattle.svcb_spec.specs.ReadingValues.{take_value, whole_value}
+use Rattle.svcb_spec.specs.ReadingValues.{take_value, whole_taken}
 use Rattle.wire_base.specs.declared.errors.ParseError.{ParseError}
 use Rattle.svcb_text.specs.WholeValues.{error_of}
 
@@ -22,7 +22,7 @@ abbrev pub items : {Seen : Type 0} → (ℕ → Bool) → (ℕ → List ℕ → 
 items takes reads [] = []
 items takes reads (pair ∷ pairs) =
     if takes pair.0
-    then with_item (whole_value pair.1 (reads pair.0 pair.1)) (items takes reads pairs)
+    then with_item (whole_taken pair.1 (reads pair.0 pair.1)) (items takes reads pairs)
     else items takes reads pairs
 
 -- the items of the type of all values, which takes each key
@@ -39,7 +39,7 @@ first_value (Err error ∷ others) = None
 abbrev pub whole_value_in : {Seen : Type 0} → (List ℕ → Result (Taken Seen) Fault)
     → Option (List ℕ) → Option Seen
 whole_value_in reads None = None
-whole_value_in reads (Some octets) = result_ok (whole_value octets (reads octets))
+whole_value_in reads (Some octets) = result_ok (whole_taken octets (reads octets))
 
 -- the same of a value of a key's type
 abbrev pub typed_value : ℕ → Option (List ℕ) → Option values.Value

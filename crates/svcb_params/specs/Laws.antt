@@ -4,7 +4,7 @@ use Rattle.name_spec.specs.Octets.{Fault}
 use Rattle.svcb_spec.specs.Params.{Pairs, wire, IsMap, pairs_wire}
 use Rattle.svcb_spec.specs.Values.{Value, Each, key_of, encode, IsValue, is_own_type}
 use Rattle.name_spec.specs.Taking.{Taken}
-use Rattle.svcb_spec.specs.ReadingValues.{take_value, whole_value}
+use Rattle.svcb_spec.specs.ReadingValues.{take_value, whole_taken}
 use Rattle.svcb_pairs.specs.Parameters.{read_pairs}
 use Rattle.svcb_params.specs.Items.{items, all_items, first_value, typed_at}
 use Rattle.svcb_pairs.specs.BuilderState.{BuilderState}
@@ -38,6 +38,6 @@ PushedRead = (builder : BuilderState) (value : Value) → IsValue value → is_o
 -- a value of its key's type is read among all values where each pair in front of it has a value
 abbrev pub AllReadThrough : Type 0
 AllReadThrough = (front back : Pairs) (value : Value) → IsValue value → is_own_type value ≡ true
-    → Each (λ pair. IsOk (whole_value pair.1 (take_value pair.0 pair.1))) front
+    → Each (λ pair. IsOk (whole_taken pair.1 (take_value pair.0 pair.1))) front
     → all_items (front ++ (key_of value, encode value) ∷ back)
     ≡ all_items front ++ Ok value ∷ all_items back

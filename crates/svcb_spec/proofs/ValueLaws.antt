@@ -8,7 +8,7 @@ use Rattle.std.proofs.lemmas.Bool.Decides.{nat_tests}
 use Rattle.name_spec.specs.Octets.{Fault, Short, Form, be2}
 use Rattle.svcb_spec.specs.Values.{Value, Mandatory, Alpn, NoDefaultAlpn, Port, Ipv4Hint, Ech, Ipv6Hint, DohPath, Ohttp, TlsSupportedGroups, Unknown, key_of, encode, numbers16_wire, protocols_wire, HasItems, IsValue, is_own_type, is_unknown}
 use Rattle.name_spec.specs.Taking.{Taken}
-use Rattle.svcb_spec.specs.ReadingValues.{octets_number, numbers, parts, protocols, are_whole, long_fault, parts_fault, groups_fault, protocols_fault, take_all, take_port, take_value, whole_value, or_unknown, value_in}
+use Rattle.svcb_spec.specs.ReadingValues.{octets_number, numbers, parts, protocols, are_whole, long_fault, parts_fault, groups_fault, protocols_fault, take_all, take_port, take_value, whole_taken, or_unknown, value_in}
 use Rattle.svcb_spec.proofs.ItemLaws.{AreOctets, octets_number-be2, be2-octets_number, octets_number-small, numbers-numbers_wire, numbers_wire-whole, numbers_wire-numbers, numbers-small, numbers-first, concat-parts, parts-each, parts-concat, concat-whole, protocols-protocols_wire, protocols_wire-whole, protocols_wire-protocols, protocols-short}
 
 -- ---- first faults
@@ -39,10 +39,10 @@ no_protocols_fault octets few whole =
 -- ---- values read back
 
 all_taken : (octets : List ℕ) (fault : Option Fault) (value read : Value) → fault ≡ None
-    → read ≡ value → whole_value octets (take_all fault read octets) ≡ Ok value
+    → read ≡ value → whole_taken octets (take_all fault read octets) ≡ Ok value
 all_taken octets fault value read none is =
     let same : nat_lt (length octets) (length octets) ≡ false = grind (arith, nat_tests) in
-    ap (λ f. whole_value octets (take_all f read octets)) none
+    ap (λ f. whole_taken octets (take_all f read octets)) none
     ∙ ap (λ t. cond t (Err Form) (Ok read)) same ∙ ap Ok is
 
 some_groups : (groups : List ℕ) → 0 < length groups → 0 < length (numbers16_wire groups)
@@ -51,7 +51,7 @@ some_groups (group ∷ groups) some = omega arith
 
 -- a value of its key's type is read back from its octets
 pub values_read_back : (value : Value) → IsValue value → is_own_type value ≡ true
-    → whole_value (encode value) (take_value (key_of value) (encode value)) ≡ Ok value
+    → whole_taken (encode value) (take_value (key_of value) (encode value)) ≡ Ok value
 values_read_back (Mandatory keys) is own =
     all_taken _ _ _ _ (no_parts_fault 2 (numbers16_wire keys) is.1 (numbers_wire-whole keys))
     (ap Mandatory (numbers-numbers_wire keys))
@@ -126,10 +126,10 @@ once a b true no_a no_b is_a is_b keys octets =
     unknown_is a no_a ∙ ap (λ k. Unknown k (encode a)) keys ∙ ap (Unknown (key_of b)) octets
     ∙ sym (unknown_is b no_b)
 once a b false typed_a typed_b is_a is_b keys octets =
-    same_ok a b (whole_value (encode a) (take_value (key_of a) (encode a)))
+    same_ok a b (whole_taken (encode a) (take_value (key_of a) (encode a)))
     (values_read_back a is_a (typed_is_own a typed_a))
-    (ap (λ k. whole_value (encode a) (take_value k (encode a))) keys
-    ∙ ap (λ os. whole_value os (take_value (key_of b) os)) octets
+    (ap (λ k. whole_taken (encode a) (take_value k (encode a))) keys
+    ∙ ap (λ os. whole_taken os (take_value (key_of b) os)) octets
     ∙ values_read_back b is_b (typed_is_own b typed_b))
 
 -- no octets are those of two values of one type and key
@@ -181,7 +181,7 @@ is_equal a b is = grind (arith, nat_tests)
 module _ (key : ℕ) (octets : List ℕ) (small : key < 65536) (few : length octets < 65536)
     (are : AreOctets octets) where
   abbrev IsInRead : Result (Taken Value) Fault → Type 0
-  IsInRead read = IsIn key octets (or_unknown key octets (whole_value octets read))
+  IsInRead read = IsIn key octets (or_unknown key octets (whole_taken octets read))
 
   any : IsIn key octets (Unknown key octets)
   any = is_in key octets (Unknown key octets) small few refl refl

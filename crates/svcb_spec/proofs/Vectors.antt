@@ -2,7 +2,7 @@
 use Rattle.std.proofs.Common.{◌≡◌, [], ◌∷◌, Ok, Err, refl}
 use Rattle.name_spec.specs.Octets.{Short, Form}
 use Rattle.svcb_spec.specs.Values.{Mandatory, Alpn, NoDefaultAlpn, Port, Ipv4Hint, Ech, Ipv6Hint, TlsSupportedGroups, Unknown, encode}
-use Rattle.svcb_spec.specs.ReadingValues.{take_value, whole_value, value_in}
+use Rattle.svcb_spec.specs.ReadingValues.{take_value, whole_taken, value_in}
 
 -- mandatory=alpn,ipv4hint,key65280
 mandatory : encode (Mandatory (1 ∷ 4 ∷ 65280 ∷ [])) ≡ 0x00 ∷ 0x01 ∷ 0x00 ∷ 0x04 ∷ 0xff ∷ 0x00 ∷ []
@@ -30,12 +30,12 @@ groups = refl
 odd_mandatory : take_value 0 (0x00 ∷ 0x01 ∷ 0x00 ∷ []) ≡ Err Form
 odd_mandatory = refl
 
-even_mandatory : whole_value (0x00 ∷ 0x01 ∷ []) (take_value 0 (0x00 ∷ 0x01 ∷ []))
+even_mandatory : whole_taken (0x00 ∷ 0x01 ∷ []) (take_value 0 (0x00 ∷ 0x01 ∷ []))
     ≡ Ok (Mandatory (1 ∷ []))
 even_mandatory = refl
 
 -- a protocol may be empty, and none may be cut off
-empty_protocol : whole_value (0x00 ∷ []) (take_value 1 (0x00 ∷ [])) ≡ Ok (Alpn ([] ∷ []))
+empty_protocol : whole_taken (0x00 ∷ []) (take_value 1 (0x00 ∷ [])) ≡ Ok (Alpn ([] ∷ []))
 empty_protocol = refl
 
 cut_protocol : take_value 1 (0x02 ∷ 0x68 ∷ []) ≡ Err Short
@@ -45,7 +45,7 @@ cut_protocol = refl
 short_port : take_value 3 (0x00 ∷ []) ≡ Err Short
 short_port = refl
 
-long_port : whole_value (0x00 ∷ 0x35 ∷ 0x00 ∷ []) (take_value 3 (0x00 ∷ 0x35 ∷ 0x00 ∷ []))
+long_port : whole_taken (0x00 ∷ 0x35 ∷ 0x00 ∷ []) (take_value 3 (0x00 ∷ 0x35 ∷ 0x00 ∷ []))
     ≡ Err Form
 long_port = refl
 
@@ -55,17 +55,17 @@ unknown_port = refl
 whole_port : value_in 3 (0x00 ∷ 0x35 ∷ []) ≡ Port 53
 whole_port = refl
 
-no_default_alpn : whole_value [] (take_value 2 []) ≡ Ok NoDefaultAlpn
+no_default_alpn : whole_taken [] (take_value 2 []) ≡ Ok NoDefaultAlpn
 no_default_alpn = refl
 
-long_ohttp : whole_value (0x00 ∷ []) (take_value 8 (0x00 ∷ [])) ≡ Err Form
+long_ohttp : whole_taken (0x00 ∷ []) (take_value 8 (0x00 ∷ [])) ≡ Err Form
 long_ohttp = refl
 
 -- addresses have 4 or 16 octets
 three_octets : take_value 4 (192 ∷ 0 ∷ 2 ∷ []) ≡ Err Form
 three_octets = refl
 
-no_addresses : whole_value [] (take_value 6 []) ≡ Ok (Ipv6Hint [])
+no_addresses : whole_taken [] (take_value 6 []) ≡ Ok (Ipv6Hint [])
 no_addresses = refl
 
 -- there is at least one group

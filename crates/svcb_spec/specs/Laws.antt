@@ -3,7 +3,7 @@ use Rattle.std.specs.Prelude.{◌≡◌, ℕ, ◌+◌, ◌<◌, ◌≤◌, ◌�
 use Rattle.svcb_spec.specs.Values.{Value, key_of, encode, Each, IsValue, AreValues, is_own_type, is_unknown}
 use Rattle.svcb_spec.specs.Records.{Record, rdata, IsRecord, read}
 use Rattle.svcb_spec.specs.Rebuilding.{accept, Rebuilt, rebuild, with_accepted, AreHeld, IsRebuilding}
-use Rattle.svcb_spec.specs.ReadingValues.{take_value, whole_value, value_in}
+use Rattle.svcb_spec.specs.ReadingValues.{take_value, whole_taken, value_in}
 use Rattle.svcb_spec.specs.Params.{Pairs, pairs_step, pairs_at, wire, IsMap, pairs_wire}
 
 -- ---- service parameters
@@ -33,7 +33,7 @@ PairsInWire = (octets : List ℕ) (pairs : Pairs) → Each (λ octet. octet < 25
 -- a value of its key's type is read back from its octets
 abbrev pub ValuesReadBack : Type 0
 ValuesReadBack = (value : Value) → IsValue value → is_own_type value ≡ true
-    → whole_value (encode value) (take_value (key_of value) (encode value)) ≡ Ok value
+    → whole_taken (encode value) (take_value (key_of value) (encode value)) ≡ Ok value
 
 -- no octets are those of two values of one type and key
 abbrev pub ValuesEncodeOnce : Type 0

@@ -110,10 +110,10 @@ take_value key octets =
     else take_all (long_fault octets) (Unknown key octets) octets
 
 -- what octets wholly are: octets left behind a value are a fault
-abbrev pub whole_value : {Seen : Type 0} → List ℕ → Result (Taken Seen) Fault → Result Seen Fault
-whole_value octets (Ok taken) = if nat_lt taken.len (length octets) then Err Form
+abbrev pub whole_taken : {Seen : Type 0} → List ℕ → Result (Taken Seen) Fault → Result Seen Fault
+whole_taken octets (Ok taken) = if nat_lt taken.len (length octets) then Err Form
     else Ok taken.value
-whole_value octets (Err fault) = Err fault
+whole_taken octets (Err fault) = Err fault
 
 -- the value that octets wholly are under a key, and else the octets as they stand
 abbrev pub or_unknown : ℕ → List ℕ → Result Value Fault → Value
@@ -121,4 +121,4 @@ or_unknown key octets (Ok value) = value
 or_unknown key octets (Err fault) = Unknown key octets
 
 abbrev pub value_in : ℕ → List ℕ → Value
-value_in key octets = or_unknown key octets (whole_value octets (take_value key octets))
+value_in key octets = or_unknown key octets (whole_taken octets (take_value key octets))

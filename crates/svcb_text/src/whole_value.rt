@@ -1,7 +1,7 @@
 //! Octets that are wholly a value.
 
 ghost use Rattle.std.specs.Prelude.{◌≡◌};
-ghost use Rattle.svcb_spec.specs.ReadingValues.{whole_value};
+ghost use Rattle.svcb_spec.specs.ReadingValues.{whole_taken};
 ghost use Rattle.svcb_text.specs.WholeValues.{seen_answer, read_wholly};
 
 use registry::{ParseSvcParamValue, SvcParamKey};
@@ -16,7 +16,7 @@ pub fn parse_wholly<'a, V: ParseSvcParamValue<'a>>(
     octets: &'a [u8],
 ) -> Result<Option<V>, ParseError>
     ensures { seen_answer V.seen result
-        ≡ read_wholly (V.takes key) (whole_value octets.now (V.reads key octets.now)) }
+        ≡ read_wholly (V.takes key) (whole_taken octets.now (V.reads key octets.now)) }
 {
     let mut parser = Parser::from_ref(octets);
     match V::parse_value(key, &mut parser)? {
