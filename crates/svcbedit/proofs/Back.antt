@@ -50,7 +50,7 @@ use Rattle.svcbedit.specs.Spelling.{line_or_fault, first_fault_or, ◌>>=◌}
 use Rattle.svcbedit.specs.Report as report
 use Rattle.svcbedit.specs.Report.{too_long}
 use Rattle.svcbedit.specs.Scan.{entry_scanned, data_scanned}
-use Rattle.svcbedit.specs.Show.{second_fault, only_line, spelled_octets, whole_message, whole_data, data_in, data_shown, spelled_show_answer, show_answer}
+use Rattle.svcbedit.specs.Show.{second_fault, only_line, spelled_octets, whole_message, whole_data, data_in, data_shown, due_of_octets, due_of_show}
 use Rattle.svcbedit.specs.declared.spelling.InputFault.{InputFault}
 use Rattle.svcbedit.specs.declared.words.Command.{Command}
 use Rattle.svcbedit.specs.declared.words.Command.TheVariants.{Show, Scan}
@@ -138,9 +138,9 @@ read_shown (Ok found) is = (found, refl, refl)
 read_shown (Err fault) is = absurd (omega (arith, is))
 
 spelled_read : (rtype : ℕ) (spelled : Result (List ℕ) InputFault)
-    → (spelled_show_answer rtype spelled).status ≡ 0
+    → (due_of_octets rtype spelled).status ≡ 0
     → (octets : List ℕ) × (spelled ≡ Ok octets) × ((data_shown (data_in rtype octets)).status ≡ 0)
-    × (spelled_show_answer rtype spelled ≡ data_shown (data_in rtype octets))
+    × (due_of_octets rtype spelled ≡ data_shown (data_in rtype octets))
 spelled_read rtype (Ok octets) is = (octets, refl, is, refl)
 spelled_read rtype (Err fault) is = absurd (omega (arith, is))
 
@@ -171,15 +171,15 @@ spelled_small all octets is =
 shown_back : UnionTextReadBack → (rtype : ℕ) → IsReadShort rtype → ShownIsScannedBack rtype
 unfolding answer_of
 shown_back texts rtype short input answer due_is good =
-    let answer_is : show_answer rtype input ≡ answer = shown_short rtype input answer due_is good in
-    let shows : (show_answer rtype input).status ≡ 0 =
+    let answer_is : due_of_show rtype input ≡ answer = shown_short rtype input answer due_is good in
+    let shows : (due_of_show rtype input).status ≡ 0 =
     ap (λ (a : report.Answer). a.status) answer_is ∙ good in
     let given = spelled_read rtype (spelled_octets input) shows in
     let octets = given.0 in
     let read = read_shown (data_in rtype octets) given.2 in
     let found = read.0 in
     let is = short octets found (spelled_small (lines input) octets given.1) read.1 in
-    let text : show_answer rtype input ≡ report.done_answer (union_printed found) =
+    let text : due_of_show rtype input ≡ report.done_answer (union_printed found) =
     given.3 ∙ read.2 in
     record {
       octets = octets;
@@ -540,15 +540,15 @@ all_back read_back texts line_fits found is =
     let spelled = spelled_back octets (rdata_small found is) in
     let back = read_back found is.is_record in (
       record {
-        show_answer = show_due 64 given _
-            (ap (spelled_show_answer 64) spelled
+        due_of_show = show_due 64 given _
+            (ap (due_of_octets 64) spelled
             ∙ ap data_shown (service_read Svcb octets found back)) few;
         scanned = scanned_back texts 64 (Svcb found) _
             (record { number = refl; is_data = is; fits = line_fits found is }) refl;
       },
       record {
-        show_answer = show_due 65 given _
-            (ap (spelled_show_answer 65) spelled
+        due_of_show = show_due 65 given _
+            (ap (due_of_octets 65) spelled
             ∙ ap data_shown (service_read Https octets found back)) few;
         scanned = scanned_back texts 65 (Https found) _
             (record { number = refl; is_data = is; fits = line_fits found is }) refl;

@@ -14,8 +14,8 @@ fault_text PlaceOutsideMessage = codes "place outside message"
 fault_text LimitTooLarge = codes "limit too large"
 
 -- the answer to an input with a fault of form
-abbrev pub refused_answer : InputFault → Answer
-refused_answer fault = record { status = 2; report = line (codes "refused: " ++ fault_text fault) }
+abbrev pub due_of_fault : InputFault → Answer
+due_of_fault fault = record { status = 2; report = line (codes "refused: " ++ fault_text fault) }
 
 -- what a report says of octets that are no data
 abbrev pub data_fault_text : Fault → List ℕ

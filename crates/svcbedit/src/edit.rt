@@ -4,7 +4,7 @@ ghost use Rattle.svcb_spec.specs.Rebuilding as spec;
 ghost use Rattle.svcb_spec.specs.Rebuilding.{rebuild};
 ghost use Rattle.svcb_rdata.specs.RebuiltView.{IsRefusal};
 ghost use Rattle.svcb_text.specs.AllValues.{value_of};
-ghost use Rattle.svcbedit.specs.Edit.{report_of, rebuild_report, edit_answer};
+ghost use Rattle.svcbedit.specs.Edit.{report_of, rebuild_report, due_of_edit};
 ghost use Rattle.svcbedit.specs.Report as report;
 ghost use Rattle.svcbedit.specs.ReportView.{answer_view};
 
@@ -61,7 +61,7 @@ fn rebuilt_answer(alloc: Global, spelling: &Spelling) -> Result<Answer, NoMemory
 /// The answer of `edit` to an input. Fails only with `NoMemory`.
 pub fn edit_answer(alloc: Global, input: &[u8]) -> Result<Answer, NoMemory>
     requires { length input.now ≤ MAX_INPUT }
-    ensures { IfOk result (λ answer. answer_view answer ≡ edit_answer input.now) }
+    ensures { IfOk result (λ answer. answer_view answer ≡ due_of_edit input.now) }
 {
     match read_spelling(alloc, input) {
         Ok(spelling) => rebuilt_answer(alloc, &spelling),

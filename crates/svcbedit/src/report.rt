@@ -1,7 +1,7 @@
 //! The texts of reports, and the status that goes with one.
 ghost use Rattle.std.specs.Prelude.{◌≡◌, ◌≢◌, ◌<◌, ◌++◌, string_bytes, IfOk};
 ghost use Rattle.hex.specs.Hex.{encode_lower};
-ghost use Rattle.svcbedit.specs.Faults.{refused_answer};
+ghost use Rattle.svcbedit.specs.Faults.{due_of_fault};
 ghost use Rattle.svcbedit.specs.Report.{done_answer, line, reply_text, reply_lines, status_of};
 ghost use Rattle.svcbedit.specs.ReportView.{answer_view};
 
@@ -58,7 +58,7 @@ pub fn text_answer(alloc: Global, outcome: Outcome, text: &str) -> Result<Answer
 
 /// The answer to an input with a fault of form. Fails only with `NoMemory`.
 pub fn refused_answer(alloc: Global, fault: InputFault) -> Result<Answer, NoMemory>
-    ensures { IfOk result (λ answer. answer_view answer ≡ refused_answer fault) }
+    ensures { IfOk result (λ answer. answer_view answer ≡ due_of_fault fault) }
 {
     Ok(Answer {
         outcome: Outcome::BadInput,
