@@ -14,7 +14,7 @@ use Rattle.name_spec.specs.Octets.{Fault, Form, Short}
 use Rattle.svcb_spec.specs.Records.{Record, rdata, read}
 use Rattle.svcb_spec.specs.Laws.{RecordReadBack}
 use Rattle.wire_base.specs.Input.{octets_left}
-use Rattle.wire_base.specs.RecordReading.{DataRead}
+use Rattle.wire_base.specs.RecordReading.{DataRead, read_up_to}
 use Rattle.wire_records.specs.Reading.{address_read, next_octets, unknown_read}
 use Rattle.wire_records.specs.UnknownView.{UnknownData}
 use Rattle.wire_records.specs.Texts.{unknown_text}
@@ -27,7 +27,7 @@ use Rattle.text_spec.specs.Tokens.{tokens_in}
 use Rattle.text_spec.proofs.Again.{has_tokens}
 use Rattle.record_spec.specs.Rows as rows
 use Rattle.record_spec.specs.Rows.{Row, Data, sshfp, tlsa, cds, cdnskey, openpgpkey, zonemd}
-use Rattle.record_spec.specs.Wire.{reaching, read_data}
+use Rattle.record_spec.specs.Wire.{read_data}
 use Rattle.record_spec.specs.Texts.{fields_printed}
 use Rattle.record_spec.specs.Ipseckeys.{IsAddress}
 use Rattle.record_spec.specs.IpseckeyWire.{ipseckey_read}
@@ -198,7 +198,7 @@ not_below n = grind (arith, nat_tests)
 -- what is read to the end
 whole_read : {V : Type 0} (type : V → RecordData) (end : ℕ) (r : Result V Fault)
     (found : RecordData)
-    → whole_data end (read_as type (reaching end r)) ≡ Ok found → (held : V) × (r ≡ Ok held)
+    → whole_data end (read_as type (read_up_to end r)) ≡ Ok found → (held : V) × (r ≡ Ok held)
     × (found ≡ type held)
 whole_read type end (Err fault) found is = absurd cc
 whole_read type end (Ok held) found is =
@@ -226,7 +226,7 @@ module _ (composed : FieldsComposedBack) (row : Row) (fits : LineFits row)
   fields_read : (octets : List ℕ) (found : RecordData) → AreSmall octets
       → whole_data (length octets)
       (read_as type
-      (reaching (length octets) (read_data row (octets_left (whole_message octets)))))
+      (read_up_to (length octets) (read_data row (octets_left (whole_message octets)))))
       ≡ Ok found
       → (held : Data) × rows.IsAssociationData row held
       × (length (report.line (fields_printed row held)) < 16777216) × (found ≡ type held)
@@ -376,7 +376,7 @@ unknown_short : UnknownTextByOctets → (rtype : ℕ)
     → data_in rtype octets
     ≡ whole_data (length octets)
     (read_as Unknown
-    (reaching (length octets) (unknown_read rtype (octets_left (whole_message octets))))))
+    (read_up_to (length octets) (unknown_read rtype (octets_left (whole_message octets))))))
     → IsReadShort rtype
 unknown_short lengths rtype in_octets octets found small is =
     let all = octets_left (whole_message octets) in
@@ -513,11 +513,11 @@ spelled_back octets small =
 service_read : (type : Record → RecordData) (octets : List ℕ) (found : Record)
     → read octets 0 (length octets) ≡ Ok found
     → whole_data (length octets)
-    (read_as type (reaching (length octets) (read octets 0 (length octets - 0))))
+    (read_as type (read_up_to (length octets) (read octets 0 (length octets - 0))))
     ≡ Ok (type found)
 service_read type octets found is =
     ap (λ (r : Result Record Fault). whole_data (length octets)
-    (read_as type (reaching (length octets) r)))
+    (read_as type (read_up_to (length octets) r)))
     (sym (ap (λ len. read octets 0 len) (all_octets octets)) ∙ is)
     ∙ ap (λ octets_left. cond octets_left (Err Form) (Ok (type found))) (not_below (length octets))
 
