@@ -48,15 +48,15 @@ pub trait ParseSvcParamValue<'a>: SvcParamValue + Sized + Drop {
     ghost reads: { ℕ → List ℕ → Result (Taken Seen) Fault };
 
     /// The value that the octets before the parser begin with, under a key; the parser then stands behind it.
-    /// `Ok(None)` exactly where the type does not take the key. Refused as `ShortInput` or `Form` by the fault of the
-    /// octets, and never with `NoMemory`. The parser stays where there is no value.
+    /// `Ok(None)` exactly where the type does not take the key. Fails with `ShortInput` or `Form` by the fault of the
+    /// octets, and never with `NoMemory`. The parser doesn't move where there is no value.
     ///
     /// No clause says that the parser is still within its data: a parser always is, by its own invariant, which
     /// `Parser::pos` and `Parser::remaining_octets` tell.
     fn parse_value(key: SvcParamKey, parser: &mut Parser<'a>) -> Result<Option<Self>, ParseError>
         ensures answer { ValueAnswers seen result (takes key) (reads key (octets_left parser.old)) }
-        ensures moved { parser.new
-            ≡ input_behind parser.old (octets_taken (takes key) (reads key (octets_left parser.old))) };
+        ensures moved { parser.new ≡ input_behind parser.old
+            (octets_taken (takes key) (reads key (octets_left parser.old))) };
 }
 
 /// A value that is composed.
@@ -68,7 +68,7 @@ pub trait ComposeSvcParamValue: SvcParamValue {
     fn compose_len(&self) -> u16
         ensures { result ≡ length (octets self.now) };
 
-    /// Appends the value's octets. Fails only with `NoMemory`; the target then stays.
+    /// Appends the value's octets. Fails only with `NoMemory`; the target is then unchanged.
     fn compose_value(&self, target: &mut Vec<u8>) -> Result<(), NoMemory>
         ensures appends { AppendsOctets target.old.items target.new.items
             (octets self.now) result };
