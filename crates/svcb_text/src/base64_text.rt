@@ -12,7 +12,7 @@ use wire_base::Octets;
 
 /// The octets that a text spells in base64 (RFC 4648, section 4).
 ///
-/// `BadBase64`: it is no base64 text. `NoMemory`: the memory for the octets isn't there.
+/// `BadBase64`: it is no base64 text. `NoMemory`: allocation failed.
 pub(crate) fn decode_base64(alloc: Global, text: &[u8]) -> Result<Octets, ScanError>
     ensures { Answers (λ octets. octets) result
         (ok_or (base64_of text.now) ScanError.BadBase64) }
