@@ -3,12 +3,13 @@
 //! data, octets, text and comparisons go out. Each call is proved to answer what its contract says.
 //!
 //! This crate re-exports the public types and calls of the crates below it, under the paths that the Rust library
-//! `domain` has for them. A crate that lists this one lists those below it too, since contracts cite their definitions.
+//! `domain` has for them, and the laws of their definitions ([`laws`]). A crate lists this one, and those below it whose
+//! definitions its own contracts cite.
 //!
 //! To read the data of an HTTPS record where it stands in a message, and its port:
 //!
 //! ```
-//! use crate::base::{ParseError, Parser};
+//! use crate::base::wire::{ParseError, Parser};
 //! use crate::rdata::svcb::{HttpsVariant, SvcbRef};
 //!
 //! fn port(octets: &[u8]) -> Result<Option<u16>, ParseError> {
@@ -36,4 +37,5 @@
 #![tactic(auto)]
 
 pub mod base;
+pub mod laws;
 pub mod rdata;
