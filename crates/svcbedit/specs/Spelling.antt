@@ -10,7 +10,8 @@ use Rattle.svcbedit.specs.declared.spelling.InputFault.TheVariants.{BadLine}
 use Rattle.svcbedit.specs.declared.spelling.SpellError.{SpellError}
 use Rattle.svcbedit.specs.declared.spelling.SpellError.TheVariants.{Fault, NoMemory}
 
--- a message, where record data stands in it, a limit on the parameters, and the values that are pushed
+-- a message, where record data stands in it, a limit on the parameters, and the values that are
+-- pushed
 pub record Spelled : Type 0 where
   pub message : List ℕ
   pub start : ℕ

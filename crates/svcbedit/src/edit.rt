@@ -36,7 +36,8 @@ fn rebuilt_answer(alloc: Global, spelling: &Spelling) -> Result<Answer, NoMemory
     requires within { spelling.now.bounds.start + spelling.now.bounds.len
         ≤ length spelling.now.message }
     requires limit { spelling.now.bounds.limit < 2 ^ 31 }
-    ensures { IfOk result (λ answer. answer_view answer ≡ rebuild_report (rebuild spelling.now.message
+    ensures { IfOk result (λ answer.
+        answer_view answer ≡ rebuild_report (rebuild spelling.now.message
         spelling.now.bounds.start spelling.now.bounds.len
         (map value_of spelling.now.pushes.items) spelling.now.bounds.limit)) }
 {

@@ -97,7 +97,8 @@ pub struct Spelling {
 
 /// Reads the first line.
 fn bounds_line(input: &mut Lines<'_>) -> Result<DataBounds, InputFault>
-    ensures value { result ≡ line_or_fault 1 (option_and_then data_bounds_of (slice_get input.old 0)) }
+    ensures value { result
+        ≡ line_or_fault 1 (option_and_then data_bounds_of (slice_get input.old 0)) }
     ensures rest { input.new ≡ drop 1 input.old }
 {
     let line = input.next();
