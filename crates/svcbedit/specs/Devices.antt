@@ -6,7 +6,7 @@ use Rattle.devices.specs.Takes.{TakesInput}
 use Rattle.devices.specs.declared.transfer.TheConstants.{MAX_INPUT}
 use Rattle.svcbedit.specs.Report.{Answer}
 use Rattle.svcbedit.specs.Run.{Performs}
-use Rattle.svcbedit.specs.RunErrors.{SourceCause, SinkCause}
+use Rattle.svcbedit.specs.RunErrors.{SourceCause, SinkCause, LastWrite}
 use Rattle.svcbedit.specs.declared.run_error.RunError.{RunError}
 
 -- The source is left alone, or all that an input may have is taken of it, and at most one octet
@@ -34,5 +34,6 @@ pub record Reports {K : Type 0} (held : K → Option (List ℕ)) (faults empty_w
       (λ _. faults new ≡ faults old)
       (λ error. SinkCause error (faults old) (faults new))
   -- each write takes an octet, but for one that fails, which is the last
-  pub each : OnOk result (empty_writes new ≡ empty_writes old)
-  pub last : empty_writes new ≤ empty_writes old + 1
+  pub last : MatchResult result
+      (λ _. empty_writes new ≡ empty_writes old)
+      (λ error. LastWrite error (empty_writes old) (empty_writes new))

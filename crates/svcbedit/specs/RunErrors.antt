@@ -1,5 +1,5 @@
 -- Why the program stops with no report, or with a part of it.
-use Rattle.std.specs.Prelude.{◌≡◌, ℕ}
+use Rattle.std.specs.Prelude.{◌≡◌, ◌+◌, ◌≤◌, ℕ}
 use Rattle.std.specs.declared.io.ErrorKind.{ErrorKind}
 use Rattle.std.specs.declared.io.ErrorKind.TheVariants.{OutOfMemory}
 use Rattle.devices.specs.Faults.{Rose}
@@ -38,3 +38,9 @@ abbrev pub SinkCause : RunError → ℕ → ℕ → Type 0
 SinkCause ReadFault before now = now ≡ before
 SinkCause WriteFault before now = Rose before now
 SinkCause NoMemory before now = now ≡ before
+
+-- a write that took no octet is one that failed, and the last
+abbrev pub LastWrite : RunError → ℕ → ℕ → Type 0
+LastWrite ReadFault before now = now ≡ before
+LastWrite WriteFault before now = now ≤ before + 1
+LastWrite NoMemory before now = now ≡ before
