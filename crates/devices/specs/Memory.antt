@@ -13,8 +13,8 @@ pub record MemoryFeed : Type 0 where
   pub faults : ℕ
 
 -- a sink: the octets that it holds, the places that are left, the most that a write takes, the
--- numbers of the writes that fail, how many writes there were, how many of them took no octet, and how
--- many failed
+-- numbers of the writes that fail, how many writes there were, how many of them took no octet, and
+-- how many failed
 pub record MemoryStore : Type 0 where
   pub held : List ℕ
   pub places : ℕ

@@ -5,7 +5,7 @@ use Rattle.text_spec.specs.declared.errors.ScanError.TheVariants.{NoMemory}
 use Rattle.text_spec.specs.declared.lexeme.Symbol.{Symbol}
 use Rattle.text_spec.specs.Scanning.{Scan, Scans, Scanning, Answers, one, any_octets, octets_of}
 use Rattle.text_spec.specs.Tokens.{text_fault, tokens_in}
-use Rattle.svcbedit.specs.Places.{◌>>=◌}
+use Rattle.svcbedit.specs.Bounds.{◌>>=◌}
 use Rattle.svcbedit.specs.Scan.{entry_scanned}
 use Rattle.svcbedit.specs.TokenPushes.{only_one, lone_token, ReadsAs}
 

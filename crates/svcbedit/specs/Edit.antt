@@ -2,9 +2,11 @@
 use Rattle.std.specs.Prelude.{ℕ, List, ◌++◌, Result, Ok, Err, codes}
 use Rattle.hex.specs.Hex.{encode_lower}
 use Rattle.svcb_spec.specs.Rebuilding.{Rebuilt, Refusal, Unread, OverLimit, TooLong, rebuild}
+use Rattle.svcbedit.specs.ExitCodes.{exit_code}
 use Rattle.svcbedit.specs.Faults.{due_of_fault, data_fault_text}
 use Rattle.svcbedit.specs.Report.{Answer, line, not_done, reply_lines}
 use Rattle.svcbedit.specs.Spelling.{Spelled, spelling_of}
+use Rattle.svcbedit.specs.declared.exit_status.ExitStatus.TheVariants as exit
 use Rattle.svcbedit.specs.declared.spelling.InputFault.{InputFault}
 
 -- what a report says of a refusal
@@ -21,8 +23,10 @@ report_of whole (Ok done) = whole done
 -- the replies, and the octets in hexadecimal
 abbrev pub rebuild_report : Result Rebuilt Refusal → Answer
 rebuild_report =
-    report_of (λ done. record
-    { status = 0; report = reply_lines done.replies ++ line (encode_lower done.octets) })
+    report_of (λ done. record {
+      status = exit_code exit.Done;
+      report = reply_lines done.replies ++ line (encode_lower done.octets);
+    })
 
 -- to what an input spells
 abbrev pub due_of_spelling : Result Spelled InputFault → Answer

@@ -9,7 +9,7 @@ use Rattle.text_spec.specs.declared.lexeme.Symbol.{Symbol}
 use Rattle.text_spec.specs.Scanning.{octets_of}
 use Rattle.text_spec.specs.Tokens.{text_fault, tokens_in}
 use Rattle.svcb_spec.specs.ParamTexts.{spells}
-use Rattle.svcbedit.specs.Places.{◌>>=◌}
+use Rattle.svcbedit.specs.Bounds.{◌>>=◌}
 
 -- the tokens of a text that is an entry
 abbrev pub entry_tokens : List ℕ → Option (List (List Symbol))

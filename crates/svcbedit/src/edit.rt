@@ -33,21 +33,22 @@ pub fn refusal_answer(alloc: Global, error: RebuildError) -> Result<Answer, NoMe
 
 /// The answer to a well-formed input.
 fn rebuilt_answer(alloc: Global, spelling: &Spelling) -> Result<Answer, NoMemory>
-    requires place { spelling.now.place.start + spelling.now.place.len
+    requires within { spelling.now.bounds.start + spelling.now.bounds.len
         ≤ length spelling.now.message }
-    requires limit { spelling.now.place.limit < 2 ^ 31 }
-    ensures { IfOk result (λ answer. answer_view answer ≡ rebuild_report (rebuild spelling.now.message
-        spelling.now.place.start spelling.now.place.len
-        (map value_of spelling.now.pushes.items) spelling.now.place.limit)) }
+    requires limit { spelling.now.bounds.limit < 2 ^ 31 }
+    ensures { IfOk result (λ answer.
+        answer_view answer ≡ rebuild_report (rebuild spelling.now.message
+        spelling.now.bounds.start spelling.now.bounds.len
+        (map value_of spelling.now.pushes.items) spelling.now.bounds.limit)) }
 {
-    let place = spelling.place;
+    let bounds = spelling.bounds;
     let outcome = rebuild_svcb(
         alloc,
         spelling.message.as_slice(),
-        place.start as usize,
-        place.len as usize,
+        bounds.start as usize,
+        bounds.len as usize,
         &spelling.pushes,
-        place.limit as usize,
+        bounds.limit as usize,
     );
     match outcome {
         Ok(rebuilt) => Ok(Answer {

@@ -159,7 +159,8 @@ fn summary_of(rebuilt: &Rebuilt) -> Summary
 /// The answer where the data was rebuilt.
 fn summary_answer(alloc: Global, rebuilt: &Rebuilt) -> Result<Answer, NoMemory>
     requires { length rebuilt.now.octets ≤ 65535 }
-    ensures { IfOk result (λ answer. answer_view answer ≡ done_answer (summary (rebuilt_view rebuilt.now))) }
+    ensures { IfOk result (λ answer.
+        answer_view answer ≡ done_answer (summary (rebuilt_view rebuilt.now))) }
 {
     let summary = summary_of(rebuilt);
     Ok(Answer {
