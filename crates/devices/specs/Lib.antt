@@ -1,4 +1,5 @@
 pub mod Counters
+pub mod EmptyCalls
 pub mod Faults
 pub mod Memory
 pub mod Reading

@@ -2,6 +2,7 @@
 ghost use Rattle.std.specs.Prelude.{◌≡◌, ℕ, ◌+◌, ◌<◌, ◌≤◌, List, Option, length, IfOk, is_some};
 ghost use Rattle.std.specs.Io.{ReadsAtMost, WritesAtMost};
 ghost use Rattle.std.specs.Io.KnownBytes.{ReadConsumes, WriteAppends};
+ghost use Rattle.devices.specs.EmptyCalls.{CountsEmpty};
 ghost use Rattle.devices.specs.Faults.{HasCause};
 
 use thiserror::Error;
@@ -22,6 +23,10 @@ pub trait Source {
     /// How often it was read, where the source counts that; else 0.
     ghost calls: { Self → ℕ } = { λ _. 0 };
 
+    /// How many of its reads gave no octet, where the source counts them; else 0. A read gives none at the end of the
+    /// input, into an empty `buf`, and where it fails.
+    ghost empty_reads: { Self → ℕ } = { λ _. 0 };
+
     /// Reads the next octets into the front of `buf`, and gives how many. For a `buf` that isn't
     /// empty, 0 means the end of the input.
     ///
@@ -33,6 +38,7 @@ pub trait Source {
         ensures bytes { ReadConsumes (left self.old) (left self.new) result buf.new }
         ensures keeps_telling { is_some (left self.new) ≡ is_some (left self.old) }
         ensures counted { calls self.new ≤ calls self.old + 1 }
+        ensures empty { CountsEmpty (empty_reads self.old) (empty_reads self.new) result }
         ensures cause { HasCause (faults self.old) (faults self.new) result };
 }
 
@@ -44,6 +50,10 @@ pub trait Sink {
     /// How often it has failed.
     ghost faults: { Self → ℕ };
 
+    /// How many of its writes took no octet, where the sink counts them; else 0. A write takes none of an empty
+    /// `bytes`, and where it fails.
+    ghost empty_writes: { Self → ℕ } = { λ _. 0 };
+
     /// Appends octets from the front of `bytes`, and gives how many: at least one, unless `bytes` is
     /// empty.
     ///
@@ -53,5 +63,6 @@ pub trait Sink {
         ensures progress { IfOk result (λ count. 0 < length bytes.now → 0 < count) }
         ensures bytes { WriteAppends (held self.old) (held self.new) result bytes.now }
         ensures keeps_telling { is_some (held self.new) ≡ is_some (held self.old) }
+        ensures empty { CountsEmpty (empty_writes self.old) (empty_writes self.new) result }
         ensures cause { HasCause (faults self.old) (faults self.new) result };
 }

@@ -3,6 +3,7 @@ ghost use Rattle.std.specs.Prelude.{◌≡◌, ℕ, ◌+◌, ◌-◌, ◌<◌, �
 ghost use Rattle.std.specs.Io.{ReadsAtMost, WritesAtMost};
 ghost use Rattle.std.specs.Io.KnownBytes.{ReadConsumes, WriteAppends};
 ghost use Rattle.devices.specs.Counters.{one_more};
+ghost use Rattle.devices.specs.EmptyCalls.{CountsEmpty};
 ghost use Rattle.devices.specs.Faults.{HasCause};
 ghost use Rattle.devices.specs.Memory.{MemoryFeed, MemoryStore, ReadFails, WriteFails};
 
@@ -16,6 +17,7 @@ pub struct MemorySource<'a> {
     piece: usize,
     failing: &'a [u64],
     calls: u64,
+    empty_reads: u64,
     faults: u64,
 }
 
@@ -27,6 +29,7 @@ impl<'a> Model for MemorySource<'a> {
       piece = s.piece;
       failing = s.failing.now;
       calls = s.calls;
+      empty_reads = s.empty_reads;
       faults = s.faults;
     } };
 
@@ -43,6 +46,7 @@ impl<'a> MemorySource<'a> {
           piece = piece;
           failing = failing.now;
           calls = 0;
+          empty_reads = 0;
           faults = 0;
         } }
     {
@@ -51,6 +55,7 @@ impl<'a> MemorySource<'a> {
             piece,
             failing,
             calls: 0,
+            empty_reads: 0,
             faults: 0,
         }
     }
@@ -63,11 +68,14 @@ impl Source for MemorySource<'_> {
 
     ghost calls = { λ s. s.calls };
 
+    ghost empty_reads = { λ s. s.empty_reads };
+
     fn read(&mut self, buf: &mut [u8]) -> Result<usize, Failed>
         ensures bound { ReadsAtMost result buf.new }
         ensures bytes { ReadConsumes (Some self.old.left) (Some self.new.left) result buf.new }
         ensures keeps_telling { is_some (Some self.new.left) ≡ is_some (Some self.old.left) }
         ensures counted { self.new.calls ≤ self.old.calls + 1 }
+        ensures empty { CountsEmpty self.old.empty_reads self.new.empty_reads result }
         ensures cause { HasCause self.old.faults self.new.faults result }
 
         ensures exactly { IsErr result ↔ ReadFails self.old }
@@ -80,6 +88,7 @@ impl Source for MemorySource<'_> {
     {
         self.calls = self.calls.saturating_add(1);
         if self.failing.contains(&self.calls) {
+            self.empty_reads = self.empty_reads.saturating_add(1);
             self.faults = self.faults.saturating_add(1);
             return Err(Failed);
         }
@@ -87,6 +96,9 @@ impl Source for MemorySource<'_> {
         let (front, rest) = self.bytes.split_at(count);
         buf[..count].copy_from_slice(front);
         self.bytes = rest;
+        if count == 0 {
+            self.empty_reads = self.empty_reads.saturating_add(1);
+        }
         Ok(count)
     }
 }
@@ -99,6 +111,7 @@ pub struct MemorySink<'a> {
     piece: usize,
     failing: &'a [u64],
     calls: u64,
+    empty_writes: u64,
     faults: u64,
 }
 
@@ -111,6 +124,7 @@ impl<'a> Model for MemorySink<'a> {
       piece = s.piece;
       failing = s.failing.now;
       calls = s.calls;
+      empty_writes = s.empty_writes;
       faults = s.faults;
     } };
 
@@ -129,6 +143,7 @@ impl<'a> MemorySink<'a> {
           piece = piece;
           failing = failing.now;
           calls = 0;
+          empty_writes = 0;
           faults = 0;
         } }
     {
@@ -138,6 +153,7 @@ impl<'a> MemorySink<'a> {
             piece,
             failing,
             calls: 0,
+            empty_writes: 0,
             faults: 0,
         }
     }
@@ -155,11 +171,14 @@ impl Sink for MemorySink<'_> {
 
     ghost faults = { λ s. s.faults };
 
+    ghost empty_writes = { λ s. s.empty_writes };
+
     fn write(&mut self, bytes: &[u8]) -> Result<usize, Failed>
         ensures bound { WritesAtMost result bytes.now }
         ensures progress { IfOk result (λ count. 0 < length bytes.now → 0 < count) }
         ensures bytes { WriteAppends (Some self.old.held) (Some self.new.held) result bytes.now }
         ensures keeps_telling { is_some (Some self.new.held) ≡ is_some (Some self.old.held) }
+        ensures empty { CountsEmpty self.old.empty_writes self.new.empty_writes result }
         ensures cause { HasCause self.old.faults self.new.faults result }
 
         ensures exactly { IsErr result ↔ WriteFails self.old bytes.now }
@@ -175,12 +194,16 @@ impl Sink for MemorySink<'_> {
         self.calls = self.calls.saturating_add(1);
         let places = self.room.len() - self.used;
         if self.failing.contains(&self.calls) || (places == 0 && !bytes.is_empty()) {
+            self.empty_writes = self.empty_writes.saturating_add(1);
             self.faults = self.faults.saturating_add(1);
             return Err(Failed);
         }
         let count = bytes.len().min(self.piece).min(places);
         self.room[self.used..self.used + count].copy_from_slice(&bytes[..count]);
         self.used += count;
+        if count == 0 {
+            self.empty_writes = self.empty_writes.saturating_add(1);
+        }
         Ok(count)
     }
 }

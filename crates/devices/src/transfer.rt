@@ -1,5 +1,5 @@
 //! Reads a whole input, and writes a whole report.
-ghost use Rattle.std.specs.Prelude.{◌≡◌, ℕ, ◌+◌, ◌≤◌, take, IfOk, OnOk, is_some, vec_len};
+ghost use Rattle.std.specs.Prelude.{◌≡◌, ℕ, ◌+◌, ◌<◌, ◌≤◌, take, IfOk, IfErr, OnOk, is_some, vec_len};
 ghost use Rattle.std.specs.Io.KnownBytes.{Appends, Consumes, IsAtEnd};
 ghost use Rattle.devices.specs.Faults.{HasCause};
 ghost use Rattle.devices.specs.Reading.{HasReadCause};
@@ -12,6 +12,8 @@ use thiserror::Error;
 
 /// The most octets that an input may have: 16 MiB, a limit of this project's own.
 pub const MAX_INPUT: usize = 16_777_216;
+
+const _: () = prove!(MAX_INPUT == 16_777_216);
 
 /// The most octets that a read is asked for: 64 KiB, a size of this project's own.
 const PIECE: usize = 65_536;
@@ -57,6 +59,14 @@ pub fn read_input<S: Source>(alloc: Global, source: &mut S) -> Result<Vec<u8>, R
     ensures bound { IfOk result (λ input. vec_len input ≤ MAX_INPUT + 1) }
     ensures calls { IfOk result (λ input.
         S.calls source.new ≤ S.calls source.old + vec_len input + 1) }
+
+    // A read that gives no octet is the last: none follows the end of the input, nor a read that fails.
+    ensures last { S.empty_reads source.new ≤ S.empty_reads source.old + 1 }
+    ensures too_long { IfOk result (λ input.
+        MAX_INPUT < vec_len input → S.empty_reads source.new ≡ S.empty_reads source.old) }
+    ensures no_memory { IfErr result (λ error.
+        error ≡ errors.NoMemory → S.empty_reads source.new ≡ S.empty_reads source.old) }
+
     ensures takes { TakesInput (S.left source.old) (S.left source.new) (MAX_INPUT + 1) }
     ensures cause { HasReadCause (S.faults source.old) (S.faults source.new) result }
 {
@@ -81,6 +91,9 @@ pub fn write_all<K: Sink>(sink: &mut K, bytes: &[u8]) -> Result<(), Failed>
     ensures part { (count : ℕ)
         × Appends (K.held sink.old) (K.held sink.new) (take count bytes.now) }
     ensures keeps_telling { is_some (K.held sink.new) ≡ is_some (K.held sink.old) }
+    // Each write takes an octet, but for one that fails, which is the last.
+    ensures each { OnOk result (K.empty_writes sink.new ≡ K.empty_writes sink.old) }
+    ensures last { K.empty_writes sink.new ≤ K.empty_writes sink.old + 1 }
     ensures cause { HasCause (K.faults sink.old) (K.faults sink.new) result }
 {
     let mut written = 0;

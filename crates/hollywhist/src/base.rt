@@ -1,13 +1,14 @@
 //! What all record data rests on: messages, names, octets, numbers and texts.
 
+pub mod cmp;
 pub mod iana;
+pub mod name;
+pub mod net;
+pub mod rdata;
 pub mod scan;
+pub mod serial;
+pub mod wire;
 pub mod zonefile_fmt;
 
-pub use registry::{Integer, LongSvcParam, ShortBuf};
-pub use wire_base::{
-    Address, CanonicalOrd, ComposeRecordData, DottedName, Ipv4Addr, Ipv6Addr, LabelIter,
-    LongRecordData, Name, NoMemory, Octets, ParseError, ParseRecordData, ParsedName, Parser,
-    PrintedOctets, RecordData, Rtype, ShortInput,
-};
-pub use wire_records::Serial;
+pub use registry::Integer;
+pub use wire_base::{NoMemory, Octets, PrintedOctets};

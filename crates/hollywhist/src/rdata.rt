@@ -6,4 +6,4 @@ pub use digest_rdata::{AssociationData, AssociationFields, Cds, Sshfp, Tlsa, Zon
 pub use key_rdata::{Cdnskey, Ipseckey, IpseckeyGateway, Openpgpkey};
 pub use rdata_union::{AllRecordData, ZoneRecordData};
 pub use svcb_rdata::{Https, Svcb, SvcbRdata};
-pub use wire_records::{A, Aaaa, UnknownRecordData};
+pub use wire_records::{A, Aaaa};

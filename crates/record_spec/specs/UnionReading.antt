@@ -3,10 +3,10 @@ use Rattle.std.specs.Prelude.{ℕ, ◌-◌, ◌==◌, Result, Ok, Err, if◌then
 use Rattle.name_spec.specs.Octets.{Fault}
 use Rattle.svcb_spec.specs.Records.{Record, read}
 use Rattle.wire_base.specs.Input.{Input, octets_left}
-use Rattle.wire_base.specs.RecordReading.{DataRead}
+use Rattle.wire_base.specs.RecordReading.{DataRead, read_up_to}
 use Rattle.wire_records.specs.Reading.{address_read, unknown_read}
 use Rattle.record_spec.specs.Rows.{sshfp, tlsa, cds, cdnskey, openpgpkey, zonemd}
-use Rattle.record_spec.specs.Wire.{reaching, fields_read}
+use Rattle.record_spec.specs.Wire.{fields_read}
 use Rattle.record_spec.specs.IpseckeyWire.{ipseckey_read}
 use Rattle.record_spec.specs.RecordData.{RecordData, A, Aaaa, Sshfp, Ipseckey, Tlsa, Cds, Cdnskey, Openpgpkey, Zonemd, Svcb, Https, Unknown}
 
@@ -18,7 +18,7 @@ read_as type (Err fault) = Err fault
 
 -- the data of an SVCB record in all octets before the end of the data
 abbrev pub svcb_read : Input → Result (DataRead Record) Fault
-svcb_read input = reaching input.end (read input.message input.pos (input.end - input.pos))
+svcb_read input = read_up_to input.end (read input.message input.pos (input.end - input.pos))
 
 -- The data under a type number, and the place behind it. A number that has no row reads all octets
 -- before the end of the data.
@@ -35,4 +35,4 @@ union_read rtype input =
     else if rtype == 63 then read_as Zonemd (fields_read zonemd input)
     else if rtype == 64 then read_as Svcb (svcb_read input)
     else if rtype == 65 then read_as Https (svcb_read input)
-    else read_as Unknown (reaching input.end (unknown_read rtype (octets_left input)))
+    else read_as Unknown (read_up_to input.end (unknown_read rtype (octets_left input)))

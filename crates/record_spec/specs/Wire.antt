@@ -3,7 +3,7 @@ use Rattle.std.specs.Prelude.{ℕ, ◌+◌, ◌*◌, ◌^◌, List, [], ◌∷�
 use Rattle.std.specs.Int.{bytes_high_first}
 use Rattle.name_spec.specs.Octets.{Fault, Short, Form}
 use Rattle.wire_base.specs.Input.{Input, octets_left}
-use Rattle.wire_base.specs.RecordReading.{DataRead}
+use Rattle.wire_base.specs.RecordReading.{DataRead, read_up_to}
 use Rattle.record_spec.specs.Rows.{Field, Row, Data, fixed_len}
 
 -- ---- composed
@@ -41,11 +41,6 @@ read_data row octets =
     else if nat_lt 65535 (length octets) then Err Form
     else Ok (record { numbers = numbers_in row.fields octets; last = drop fixed octets })
 
--- data that reaches to a place
-abbrev pub reaching : {V : Type 0} → ℕ → Result V Fault → Result (DataRead V) Fault
-reaching end (Ok found) = Ok (record { value = found; next = end })
-reaching end (Err fault) = Err fault
-
 -- the data in all octets before the end of the data, and the place behind it
 abbrev pub fields_read : Row → Input → Result (DataRead Data) Fault
-fields_read row input = reaching input.end (read_data row (octets_left input))
+fields_read row input = read_up_to input.end (read_data row (octets_left input))

@@ -1,7 +1,7 @@
 -- What octets are as a weight.
 use Rattle.std.specs.Prelude.{ℕ, List, length, nat_lt, slice_index, Result, Ok, Err, if◌then◌else◌}
-use Rattle.name_spec.specs.Octets.{Fault, Short}
-use Rattle.name_spec.specs.Taking.{Taken}
+use Rattle.hollywhist.specs.Octets.{Fault, Short}
+use Rattle.hollywhist.specs.Taking.{Taken}
 
 -- the first octet; what stands behind it is left
 abbrev pub weight_in : List ℕ → Result (Taken ℕ) Fault

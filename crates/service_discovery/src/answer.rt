@@ -1,6 +1,8 @@
 //! The HTTPS record in the answer to a query (RFC 1035, section 4.1).
 
-use hollywhist::base::{ParseError, ParsedName, Parser, Rtype};
+use hollywhist::base::iana::Rtype;
+use hollywhist::base::name::ParsedName;
+use hollywhist::base::wire::{ParseError, Parser};
 use hollywhist::rdata::svcb::{HttpsVariant, SvcbRef};
 
 /// A record of an answer: its type, and its data, whose names may point back into the message.

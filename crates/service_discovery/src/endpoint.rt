@@ -1,11 +1,11 @@
 //! Where to connect, as an HTTPS record says it.
 
 ghost use Rattle.std.specs.Prelude.{◌≡◌, option_map, IfOk};
-ghost use Rattle.svcb_spec.specs.Values as values;
-ghost use Rattle.svcb_params.specs.Items.{typed_at};
+ghost use Rattle.hollywhist.specs.Values as values;
+ghost use Rattle.hollywhist.specs.Items.{typed_at};
 
 use crate::weight::Weight;
-use hollywhist::base::Ipv4Addr;
+use hollywhist::base::net::Ipv4Addr;
 use hollywhist::rdata::svcb::value::Port;
 use hollywhist::rdata::svcb::{HttpsVariant, SvcbRef};
 use std::alloc::{AllocError, Global};

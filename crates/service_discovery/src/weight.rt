@@ -6,7 +6,8 @@
 ghost use Rattle.std.specs.Prelude.{◌≡◌, ℕ, ◌==◌, [], ◌∷◌};
 ghost use Rattle.service_discovery.specs.Weights.{weight_in};
 
-use hollywhist::base::{NoMemory, ParseError, Parser};
+use hollywhist::base::NoMemory;
+use hollywhist::base::wire::{ParseError, Parser};
 use hollywhist::rdata::svcb::{
     ComposeSvcParamValue, ParseSvcParamValue, SvcParamKey, SvcParamValue,
 };

@@ -6,7 +6,7 @@ use Rattle.svcb_spec.specs.Params.{Pairs}
 use Rattle.svcb_spec.specs.Records.{Record, read}
 use Rattle.wire_base.specs.Input.{Input}
 use Rattle.wire_base.specs.NameView.{NameView}
-use Rattle.wire_base.specs.RecordReading.{DataRead}
+use Rattle.wire_base.specs.RecordReading.{DataRead, read_up_to}
 
 -- record data in a message, whose target may be compressed
 pub record RecordView : Type 0 where
@@ -27,14 +27,9 @@ next_record input = read input.message input.pos (input.end - input.pos)
 abbrev pub is_target_pointed : Input → Bool
 is_target_pointed input = is_pointed input.message input.end (input.pos + 2)
 
--- data that reaches to a place
-abbrev pub reaching : ℕ → Result Record Fault → Result (DataRead Record) Fault
-reaching end (Ok found) = Ok (record { value = found; next = end })
-reaching end (Err fault) = Err fault
-
 -- that record data, and the place behind it
 abbrev pub svcb_data_read : Input → Result (DataRead Record) Fault
-svcb_data_read input = reaching input.end (next_record input)
+svcb_data_read input = read_up_to input.end (next_record input)
 
 -- the parameters of a record that was read
 abbrev pub record_pairs : Result Record Fault → Result Pairs Fault

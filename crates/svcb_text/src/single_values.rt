@@ -1,4 +1,4 @@
-//! Values that are no lists, read from text: markers, ports, octets and values without a type.
+//! Values that are no lists, scanned from text: markers, ports, octets and values without a type.
 
 ghost use Rattle.std.specs.Prelude.{◌≡◌, ◌==◌, true, length};
 ghost use Rattle.svcb_spec.specs.Values as values;

@@ -14,7 +14,7 @@ use Rattle.name_spec.specs.Octets.{Fault, Form, Short}
 use Rattle.svcb_spec.specs.Records.{Record, rdata, read}
 use Rattle.svcb_spec.specs.Laws.{RecordReadBack}
 use Rattle.wire_base.specs.Input.{octets_left}
-use Rattle.wire_base.specs.RecordReading.{DataRead}
+use Rattle.wire_base.specs.RecordReading.{DataRead, read_up_to}
 use Rattle.wire_records.specs.Reading.{address_read, next_octets, unknown_read}
 use Rattle.wire_records.specs.UnknownView.{UnknownData}
 use Rattle.wire_records.specs.Texts.{unknown_text}
@@ -27,7 +27,7 @@ use Rattle.text_spec.specs.Tokens.{tokens_in}
 use Rattle.text_spec.proofs.Again.{has_tokens}
 use Rattle.record_spec.specs.Rows as rows
 use Rattle.record_spec.specs.Rows.{Row, Data, sshfp, tlsa, cds, cdnskey, openpgpkey, zonemd}
-use Rattle.record_spec.specs.Wire.{reaching, read_data}
+use Rattle.record_spec.specs.Wire.{read_data}
 use Rattle.record_spec.specs.Texts.{fields_printed}
 use Rattle.record_spec.specs.Ipseckeys.{IsAddress}
 use Rattle.record_spec.specs.IpseckeyWire.{ipseckey_read}
@@ -50,7 +50,7 @@ use Rattle.svcbedit.specs.Spelling.{line_or_fault, first_fault_or, ◌>>=◌}
 use Rattle.svcbedit.specs.Report as report
 use Rattle.svcbedit.specs.Report.{too_long}
 use Rattle.svcbedit.specs.Scan.{entry_scanned, data_scanned}
-use Rattle.svcbedit.specs.Show.{second_fault, only_line, spelled_octets, whole_message, whole_data, data_in, data_shown, spelled_show_answer, show_answer}
+use Rattle.svcbedit.specs.Show.{second_fault, only_line, spelled_octets, whole_message, whole_data, data_in, data_shown, due_of_octets, due_of_show}
 use Rattle.svcbedit.specs.declared.spelling.InputFault.{InputFault}
 use Rattle.svcbedit.specs.declared.words.Command.{Command}
 use Rattle.svcbedit.specs.declared.words.Command.TheVariants.{Show, Scan}
@@ -138,9 +138,9 @@ read_shown (Ok found) is = (found, refl, refl)
 read_shown (Err fault) is = absurd (omega (arith, is))
 
 spelled_read : (rtype : ℕ) (spelled : Result (List ℕ) InputFault)
-    → (spelled_show_answer rtype spelled).status ≡ 0
+    → (due_of_octets rtype spelled).status ≡ 0
     → (octets : List ℕ) × (spelled ≡ Ok octets) × ((data_shown (data_in rtype octets)).status ≡ 0)
-    × (spelled_show_answer rtype spelled ≡ data_shown (data_in rtype octets))
+    × (due_of_octets rtype spelled ≡ data_shown (data_in rtype octets))
 spelled_read rtype (Ok octets) is = (octets, refl, is, refl)
 spelled_read rtype (Err fault) is = absurd (omega (arith, is))
 
@@ -171,15 +171,15 @@ spelled_small all octets is =
 shown_back : UnionTextReadBack → (rtype : ℕ) → IsReadShort rtype → ShownIsScannedBack rtype
 unfolding answer_of
 shown_back texts rtype short input answer due_is good =
-    let answer_is : show_answer rtype input ≡ answer = shown_short rtype input answer due_is good in
-    let shows : (show_answer rtype input).status ≡ 0 =
+    let answer_is : due_of_show rtype input ≡ answer = shown_short rtype input answer due_is good in
+    let shows : (due_of_show rtype input).status ≡ 0 =
     ap (λ (a : report.Answer). a.status) answer_is ∙ good in
     let given = spelled_read rtype (spelled_octets input) shows in
     let octets = given.0 in
     let read = read_shown (data_in rtype octets) given.2 in
     let found = read.0 in
     let is = short octets found (spelled_small (lines input) octets given.1) read.1 in
-    let text : show_answer rtype input ≡ report.done_answer (union_printed found) =
+    let text : due_of_show rtype input ≡ report.done_answer (union_printed found) =
     given.3 ∙ read.2 in
     record {
       octets = octets;
@@ -198,7 +198,7 @@ not_below n = grind (arith, nat_tests)
 -- what is read to the end
 whole_read : {V : Type 0} (type : V → RecordData) (end : ℕ) (r : Result V Fault)
     (found : RecordData)
-    → whole_data end (read_as type (reaching end r)) ≡ Ok found → (held : V) × (r ≡ Ok held)
+    → whole_data end (read_as type (read_up_to end r)) ≡ Ok found → (held : V) × (r ≡ Ok held)
     × (found ≡ type held)
 whole_read type end (Err fault) found is = absurd cc
 whole_read type end (Ok held) found is =
@@ -226,7 +226,7 @@ module _ (composed : FieldsComposedBack) (row : Row) (fits : LineFits row)
   fields_read : (octets : List ℕ) (found : RecordData) → AreSmall octets
       → whole_data (length octets)
       (read_as type
-      (reaching (length octets) (read_data row (octets_left (whole_message octets)))))
+      (read_up_to (length octets) (read_data row (octets_left (whole_message octets)))))
       ≡ Ok found
       → (held : Data) × rows.IsAssociationData row held
       × (length (report.line (fields_printed row held)) < 16777216) × (found ≡ type held)
@@ -376,7 +376,7 @@ unknown_short : UnknownTextByOctets → (rtype : ℕ)
     → data_in rtype octets
     ≡ whole_data (length octets)
     (read_as Unknown
-    (reaching (length octets) (unknown_read rtype (octets_left (whole_message octets))))))
+    (read_up_to (length octets) (unknown_read rtype (octets_left (whole_message octets))))))
     → IsReadShort rtype
 unknown_short lengths rtype in_octets octets found small is =
     let all = octets_left (whole_message octets) in
@@ -513,11 +513,11 @@ spelled_back octets small =
 service_read : (type : Record → RecordData) (octets : List ℕ) (found : Record)
     → read octets 0 (length octets) ≡ Ok found
     → whole_data (length octets)
-    (read_as type (reaching (length octets) (read octets 0 (length octets - 0))))
+    (read_as type (read_up_to (length octets) (read octets 0 (length octets - 0))))
     ≡ Ok (type found)
 service_read type octets found is =
     ap (λ (r : Result Record Fault). whole_data (length octets)
-    (read_as type (reaching (length octets) r)))
+    (read_as type (read_up_to (length octets) r)))
     (sym (ap (λ len. read octets 0 len) (all_octets octets)) ∙ is)
     ∙ ap (λ octets_left. cond octets_left (Err Form) (Ok (type found))) (not_below (length octets))
 
@@ -540,15 +540,15 @@ all_back read_back texts line_fits found is =
     let spelled = spelled_back octets (rdata_small found is) in
     let back = read_back found is.is_record in (
       record {
-        show_answer = show_due 64 given _
-            (ap (spelled_show_answer 64) spelled
+        due_of_show = show_due 64 given _
+            (ap (due_of_octets 64) spelled
             ∙ ap data_shown (service_read Svcb octets found back)) few;
         scanned = scanned_back texts 64 (Svcb found) _
             (record { number = refl; is_data = is; fits = line_fits found is }) refl;
       },
       record {
-        show_answer = show_due 65 given _
-            (ap (spelled_show_answer 65) spelled
+        due_of_show = show_due 65 given _
+            (ap (due_of_octets 65) spelled
             ∙ ap data_shown (service_read Https octets found back)) few;
         scanned = scanned_back texts 65 (Https found) _
             (record { number = refl; is_data = is; fits = line_fits found is }) refl;

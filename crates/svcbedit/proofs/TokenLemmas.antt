@@ -5,9 +5,9 @@ use Rattle.text_spec.specs.declared.errors.ScanError.TheVariants.{NoMemory}
 use Rattle.text_spec.specs.declared.lexeme.Symbol.{Symbol}
 use Rattle.text_spec.specs.Scanning.{Scan, Scans, Scanning, Answers, one, any_octets, octets_of}
 use Rattle.text_spec.specs.Tokens.{text_fault, tokens_in}
-use Rattle.svcbedit.specs.Places.{◌>>=◌}
+use Rattle.svcbedit.specs.Bounds.{◌>>=◌}
 use Rattle.svcbedit.specs.Scan.{entry_scanned}
-use Rattle.svcbedit.specs.TokenPushes.{lone_token, lone_token, ReadsAs}
+use Rattle.svcbedit.specs.TokenPushes.{only_one, lone_token, ReadsAs}
 
 -- a refusal is right where there is nothing to read
 pub refused-none : {X Y : Type 0} (view : X → Y) (fault : ScanError) (given : Option Y)
@@ -18,7 +18,7 @@ refused-none view fault given none = none
 
 -- the octets of the only token
 abbrev lone_octets : List (List Symbol) → Option (List ℕ)
-lone_octets tokens = lone_token tokens >>= λ token. Some (octets_of token)
+lone_octets tokens = only_one tokens >>= λ token. Some (octets_of token)
 
 -- no token is taken of a text's
 abbrev pub before : List ℕ → Scan
@@ -29,7 +29,7 @@ lone_token-is : (line : List ℕ) → text_fault line ≡ None
     → lone_token line ≡ lone_octets (tokens_in line)
 lone_token-is line sound =
     ap (λ (fault : Option ScanError). elim fault [ None ↦ Some (tokens_in line) | Some _ ↦ None ]
-    >>= lone_token
+    >>= only_one
     >>= λ token. Some (octets_of token)) sound
 
 -- what scanning the first token leaves and answers

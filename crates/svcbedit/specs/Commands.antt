@@ -3,20 +3,20 @@
 use Rattle.std.specs.Prelude.{ℕ, Bool, true, false, nat_lt, if◌then◌else◌, Option, Some, None, List, [], length}
 use Rattle.std.specs.Option.{option_map}
 use Rattle.devices.specs.declared.transfer.TheConstants.{MAX_INPUT}
-use Rattle.svcbedit.specs.Edit.{edit_answer}
-use Rattle.svcbedit.specs.Generate.{gen_answer}
+use Rattle.svcbedit.specs.Edit.{due_of_edit}
+use Rattle.svcbedit.specs.Generate.{due_of_gen}
 use Rattle.svcbedit.specs.Report.{Answer, no_command, too_long}
-use Rattle.svcbedit.specs.Scan.{scan_answer}
-use Rattle.svcbedit.specs.Show.{show_answer}
+use Rattle.svcbedit.specs.Scan.{due_of_scan}
+use Rattle.svcbedit.specs.Show.{due_of_show}
 use Rattle.svcbedit.specs.declared.words.Command.{Command}
 use Rattle.svcbedit.specs.declared.words.Command.TheVariants.{Edit, Show, Scan, Gen}
 
 -- the answer of a command to an input that isn't too long
 unfoldable pub answer_of : Command → List ℕ → Answer
-answer_of Edit input = edit_answer input
-answer_of (Show rtype) input = show_answer rtype input
-answer_of (Scan rtype) input = scan_answer rtype input
-answer_of (Gen count) input = gen_answer count
+answer_of Edit input = due_of_edit input
+answer_of (Show rtype) input = due_of_show rtype input
+answer_of (Scan rtype) input = due_of_scan rtype input
+answer_of (Gen count) input = due_of_gen count
 
 -- the command reads the input; one that doesn't is given an empty one
 unfoldable pub is_reading : Command → Bool

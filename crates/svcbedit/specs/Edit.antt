@@ -2,9 +2,11 @@
 use Rattle.std.specs.Prelude.{ℕ, List, ◌++◌, Result, Ok, Err, codes}
 use Rattle.hex.specs.Hex.{encode_lower}
 use Rattle.svcb_spec.specs.Rebuilding.{Rebuilt, Refusal, Unread, OverLimit, TooLong, rebuild}
-use Rattle.svcbedit.specs.Faults.{refused_answer, data_fault_text}
+use Rattle.svcbedit.specs.ExitCodes.{exit_code}
+use Rattle.svcbedit.specs.Faults.{due_of_fault, data_fault_text}
 use Rattle.svcbedit.specs.Report.{Answer, line, not_done, reply_lines}
 use Rattle.svcbedit.specs.Spelling.{Spelled, spelling_of}
+use Rattle.svcbedit.specs.declared.exit_status.ExitStatus.TheVariants as exit
 use Rattle.svcbedit.specs.declared.spelling.InputFault.{InputFault}
 
 -- what a report says of a refusal
@@ -21,14 +23,16 @@ report_of whole (Ok done) = whole done
 -- the replies, and the octets in hexadecimal
 abbrev pub rebuild_report : Result Rebuilt Refusal → Answer
 rebuild_report =
-    report_of (λ done. record
-    { status = 0; report = reply_lines done.replies ++ line (encode_lower done.octets) })
+    report_of (λ done. record {
+      status = exit_code exit.Done;
+      report = reply_lines done.replies ++ line (encode_lower done.octets);
+    })
 
 -- to what an input spells
-abbrev pub spelled_edit_answer : Result Spelled InputFault → Answer
-spelled_edit_answer (Err fault) = refused_answer fault
-spelled_edit_answer (Ok s) = rebuild_report (rebuild s.message s.start s.len s.pushes s.limit)
+abbrev pub due_of_spelling : Result Spelled InputFault → Answer
+due_of_spelling (Err fault) = due_of_fault fault
+due_of_spelling (Ok s) = rebuild_report (rebuild s.message s.start s.len s.pushes s.limit)
 
 -- the answer of `edit` to an input that isn't too long
-abbrev pub edit_answer : List ℕ → Answer
-edit_answer input = spelled_edit_answer (spelling_of input)
+abbrev pub due_of_edit : List ℕ → Answer
+due_of_edit input = due_of_spelling (spelling_of input)

@@ -64,6 +64,6 @@ own_rebuilt count =
     rebuild (own_message count) 0 (length (own_message count)) (pushes_below (min count 2000)) 65532
 
 -- the answer of `gen` to a count, which is at most 8000 where words give it
-abbrev pub gen_answer : ℕ → Answer
-gen_answer count =
+abbrev pub due_of_gen : ℕ → Answer
+due_of_gen count =
     report_of (λ rebuilt. done_answer (summary rebuilt)) (own_rebuilt (min count 8000))

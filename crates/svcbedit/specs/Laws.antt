@@ -6,8 +6,10 @@ use Rattle.svcb_laws.specs.DataTextLaws.{IsRecordOfOctets}
 use Rattle.record_spec.specs.RecordData.{RecordData, Svcb, Https, union_wire}
 use Rattle.record_spec.specs.UnionTexts.{union_printed}
 use Rattle.svcbedit.specs.Commands.{due}
+use Rattle.svcbedit.specs.ExitCodes.{exit_code}
 use Rattle.svcbedit.specs.Report.{Answer, done_answer, line}
 use Rattle.svcbedit.specs.Show.{spelled_octets, data_in}
+use Rattle.svcbedit.specs.declared.exit_status.ExitStatus.TheVariants as exit
 use Rattle.svcbedit.specs.declared.words.Command.TheVariants.{Show, Scan, Gen}
 
 -- the octets of data in hexadecimal
@@ -34,7 +36,7 @@ pub record IsScannedBack (rtype : ℕ) (input text : List ℕ) : Type 0 where
 abbrev pub ShownIsScannedBack : ℕ → Type 0
 ShownIsScannedBack rtype = (input : List ℕ) (answer : Answer)
     → due_to_show rtype input ≡ Some answer
-    → answer.status ≡ 0 → IsScannedBack rtype input answer.report
+    → answer.status ≡ exit_code exit.Done → IsScannedBack rtype input answer.report
 
 -- so it is for every type number
 abbrev pub TypesAreScannedBack : Type 0
@@ -55,7 +57,7 @@ AllDataBack = (found : Record) → IsRecordOfOctets found → IsDataBack 64 (Svc
 -- an answer is known, and says that the command was done
 abbrev pub IsDone : Option Answer → Type 0
 IsDone None = ⊥
-IsDone (Some answer) = answer.status ≡ 0
+IsDone (Some answer) = answer.status ≡ exit_code exit.Done
 
 -- the answer that is due to `gen` says so for any count and any source
 abbrev pub GenIsDone : Type 0

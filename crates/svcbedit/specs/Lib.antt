@@ -1,6 +1,6 @@
 pub mod Lines
 pub mod Numbers
-pub mod Places
+pub mod Bounds
 pub mod TokenPushes
 pub mod Pushes
 pub mod Report
@@ -9,6 +9,7 @@ pub mod Spelling
 pub mod SpellingView
 pub mod ReportView
 pub mod Edit
+pub mod ExitCodes
 pub mod Show
 pub mod Scan
 pub mod Generate

@@ -6,7 +6,7 @@ use Rattle.hex.specs.Hex.{decode_of}
 use Rattle.svcb_spec.specs.Values.{Value, Unknown}
 use Rattle.svcbedit.specs.Lines.{words}
 use Rattle.svcbedit.specs.Numbers.{decimal_number}
-use Rattle.svcbedit.specs.Places.{◌>>=◌}
+use Rattle.svcbedit.specs.Bounds.{◌>>=◌}
 use Rattle.svcbedit.specs.TokenPushes.{token_push}
 
 -- the octets of an even count of hexadecimal digits, in either case

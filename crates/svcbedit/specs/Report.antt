@@ -3,6 +3,8 @@ use Rattle.std.specs.Prelude.{ℕ, List, [], ◌∷◌, ◌++◌, codes}
 use Rattle.std.specs.List.{flat_map}
 use Rattle.svcb_spec.specs.declared.Reply.{Reply}
 use Rattle.svcb_spec.specs.declared.Reply.TheVariants.{Accepted, DuplicateKey, ShortBuf}
+use Rattle.svcbedit.specs.ExitCodes.{exit_code}
+use Rattle.svcbedit.specs.declared.exit_status.ExitStatus.TheVariants as exit
 use Rattle.svcbedit.specs.declared.report.Outcome.{Outcome}
 use Rattle.svcbedit.specs.declared.report.Outcome.TheVariants.{Done, BadInput, NotDone}
 
@@ -22,9 +24,9 @@ reply_lines replies = flat_map (λ reply. line (reply_text reply)) replies
 
 -- the status of each outcome
 abbrev pub status_of : Outcome → ℕ
-status_of Done = 0
-status_of BadInput = 2
-status_of NotDone = 3
+status_of Done = exit_code exit.Done
+status_of BadInput = exit_code exit.BadInput
+status_of NotDone = exit_code exit.NotDone
 
 -- a status, and the report that is written with it
 pub record Answer : Type 0 where
@@ -33,16 +35,25 @@ pub record Answer : Type 0 where
 
 -- the command was done, and this is the line that it gives
 abbrev pub done_answer : List ℕ → Answer
-done_answer text = record { status = 0; report = line text }
+done_answer text = record { status = exit_code exit.Done; report = line text }
 
 -- the input is well formed, and for this reason what it asks for can't be done
 abbrev pub not_done : List ℕ → Answer
-not_done reason = record { status = 3; report = line (codes "error: " ++ reason) }
+not_done reason = record {
+  status = exit_code exit.NotDone;
+  report = line (codes "error: " ++ reason);
+}
 
 -- to words that are no command
 abbrev pub no_command : Answer
-no_command = record { status = 1; report = line (codes "refused: unknown command") }
+no_command = record {
+  status = exit_code exit.UnknownCommand;
+  report = line (codes "refused: unknown command");
+}
 
 -- to an input of more octets than one may have
 abbrev pub too_long : Answer
-too_long = record { status = 2; report = line (codes "refused: input too long") }
+too_long = record {
+  status = exit_code exit.BadInput;
+  report = line (codes "refused: input too long");
+}

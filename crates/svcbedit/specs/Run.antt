@@ -1,7 +1,9 @@
 -- How the program ends.
 use Rattle.std.specs.Prelude.{◌≡◌, ◌≢◌, ◌<◌, ◌≤◌, ℕ, List, Option, Some, None, Result, Ok, Err, take, IfOk, IfSome, MatchResult}
 use Rattle.std.specs.Io.KnownBytes.{Appends, Keeps}
+use Rattle.svcbedit.specs.ExitCodes.{exit_code}
 use Rattle.svcbedit.specs.Report.{Answer}
+use Rattle.svcbedit.specs.declared.exit_status.ExitStatus.TheVariants as exit
 use Rattle.svcbedit.specs.declared.words.Command.{Command}
 use Rattle.svcbedit.specs.declared.run_error.RunError.{RunError}
 use Rattle.svcbedit.specs.declared.run_error.RunError.TheVariants.{ReadFault, WriteFault, NoMemory}
@@ -16,14 +18,15 @@ Part answer old new = (count : ℕ) × Appends old new (take count answer.report
 
 -- The status, and what the sink holds, by the answer that is due.
 pub record Ends (status : ℕ) (answer : Option Answer) (old new : Option (List ℕ)) : Type 0 where
-  pub within : status ≤ 6
-  -- below 4: that answer's status and whole report
-  pub whole : status < 4 → IfSome answer (λ a. (status ≡ a.status) × Whole a old new)
+  pub within : status ≤ exit_code exit.NoMemory
+  -- a report was written: that answer's status and whole report
+  pub whole : status < exit_code exit.ReadFault
+      → IfSome answer (λ a. (status ≡ a.status) × Whole a old new)
   -- a write failed: a prefix of its report
-  pub part : status ≡ 5 → IfSome answer (λ a. Part a old new)
+  pub part : status ≡ exit_code exit.WriteFault → IfSome answer (λ a. Part a old new)
   -- a read failed, or memory was wanting: nothing
-  pub read_fault : status ≡ 4 → Keeps old new
-  pub no_memory : status ≡ 6 → Keeps old new
+  pub read_fault : status ≡ exit_code exit.ReadFault → Keeps old new
+  pub no_memory : status ≡ exit_code exit.NoMemory → Keeps old new
 
 -- what the sink holds where the program stops
 abbrev pub RunErrors : RunError → Option Answer → Option (List ℕ) → Option (List ℕ) → Type 0
@@ -32,9 +35,11 @@ RunErrors WriteFault answer old new = IfSome answer (λ a. Part a old new)
 RunErrors NoMemory answer old new = Keeps old new
 
 -- how a command ends, before there is a status for each stop
-abbrev pub Performs : Result ℕ RunError → Option Answer → Option (List ℕ) → Option (List ℕ) → Type 0
+abbrev pub Performs : Result ℕ RunError → Option Answer → Option (List ℕ) → Option (List ℕ)
+    → Type 0
 Performs (Ok status) answer old new =
-    (status < 4) × IfSome answer (λ a. (status ≡ a.status) × Whole a old new)
+    (status < exit_code exit.ReadFault)
+    × IfSome answer (λ a. (status ≡ a.status) × Whole a old new)
 Performs (Err stop) answer old new = RunErrors stop answer old new
 
 -- a write failed, which alone stops the program at words that are no command
@@ -49,11 +54,13 @@ IsNoWriteFault ReadFault = Unit {0}
 IsNoWriteFault WriteFault = ⊥
 IsNoWriteFault NoMemory = Unit {0}
 
--- The status is 1 for words that are no command, and for no others. Before such words only a write
--- may fail.
+-- The status is that of an unknown command for words that are no command, and for no others. Before
+-- such words only a write may fail.
 abbrev pub TellsCommand : Option Command → Result ℕ RunError → Type 0
-TellsCommand None result = MatchResult result (λ status. status ≡ 1) IsWriteFault
-TellsCommand (Some command) result = IfOk result (λ status. status ≢ 1)
+TellsCommand None result =
+    MatchResult result (λ status. status ≡ exit_code exit.UnknownCommand) IsWriteFault
+TellsCommand (Some command) result =
+    IfOk result (λ status. status ≢ exit_code exit.UnknownCommand)
 
 -- no read failed, since none was tried
 abbrev pub IsNoReadFault : RunError → Type 0

@@ -22,5 +22,5 @@ data_scanned (Err fault) = not_done (scan_fault_text fault)
 data_scanned (Ok found) = done_answer (encode_lower (union_wire found))
 
 -- the answer of `scan`, for a type number, to an input that isn't too long
-abbrev pub scan_answer : ℕ → List ℕ → Answer
-scan_answer rtype text = data_scanned (entry_scanned (union_scan rtype) text)
+abbrev pub due_of_scan : ℕ → List ℕ → Answer
+due_of_scan rtype text = data_scanned (entry_scanned (union_scan rtype) text)

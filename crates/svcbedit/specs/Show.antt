@@ -6,7 +6,7 @@ use Rattle.wire_base.specs.RecordReading.{DataRead}
 use Rattle.record_spec.specs.RecordData.{RecordData}
 use Rattle.record_spec.specs.UnionReading.{union_read}
 use Rattle.record_spec.specs.UnionTexts.{union_printed}
-use Rattle.svcbedit.specs.Faults.{refused_answer, data_fault_text}
+use Rattle.svcbedit.specs.Faults.{due_of_fault, data_fault_text}
 use Rattle.svcbedit.specs.Lines.{lines}
 use Rattle.svcbedit.specs.Pushes.{hexadecimal_octets}
 use Rattle.svcbedit.specs.Report.{Answer, done_answer, not_done}
@@ -48,10 +48,10 @@ data_shown (Ok found) = done_answer (union_printed found)
 data_shown (Err fault) = not_done (data_fault_text fault)
 
 -- to what an input spells
-abbrev pub spelled_show_answer : ℕ → Result (List ℕ) InputFault → Answer
-spelled_show_answer rtype (Err fault) = refused_answer fault
-spelled_show_answer rtype (Ok octets) = data_shown (data_in rtype octets)
+abbrev pub due_of_octets : ℕ → Result (List ℕ) InputFault → Answer
+due_of_octets rtype (Err fault) = due_of_fault fault
+due_of_octets rtype (Ok octets) = data_shown (data_in rtype octets)
 
 -- the answer of `show`, for a type number, to an input that isn't too long
-abbrev pub show_answer : ℕ → List ℕ → Answer
-show_answer rtype input = spelled_show_answer rtype (spelled_octets input)
+abbrev pub due_of_show : ℕ → List ℕ → Answer
+due_of_show rtype input = due_of_octets rtype (spelled_octets input)

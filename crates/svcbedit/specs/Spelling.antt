@@ -1,16 +1,16 @@
 -- What an input of `edit` spells.
 use Rattle.std.specs.Prelude.{ℕ, ◌≡◌, ◌+◌, Option, Some, None, Result, Ok, Err, List, [], ◌∷◌, length, drop, slice_get, option_and_then}
 use Rattle.svcb_spec.specs.Values.{Value}
-use Rattle.svcbedit.specs.Faults.{place_fault}
+use Rattle.svcbedit.specs.Faults.{bounds_fault}
 use Rattle.svcbedit.specs.Lines.{lines}
-use Rattle.svcbedit.specs.Places.{place_of}
+use Rattle.svcbedit.specs.Bounds.{data_bounds_of}
 use Rattle.svcbedit.specs.Pushes.{hexadecimal_octets, push_of}
 use Rattle.svcbedit.specs.declared.spelling.InputFault.{InputFault}
 use Rattle.svcbedit.specs.declared.spelling.InputFault.TheVariants.{BadLine}
 use Rattle.svcbedit.specs.declared.spelling.SpellError.{SpellError}
 use Rattle.svcbedit.specs.declared.spelling.SpellError.TheVariants.{Fault, NoMemory}
 
--- a message, the place of the record data in it, a limit on the parameters, and the values that are
+-- a message, where record data stands in it, a limit on the parameters, and the values that are
 -- pushed
 pub record Spelled : Type 0 where
   pub message : List ℕ
@@ -45,17 +45,17 @@ abbrev pub first_fault_or : {A : Type 0} → Option InputFault → Result A Inpu
 first_fault_or (Some fault) next = Err fault
 first_fault_or None next = next
 
--- line 1 is the place, line 2 the message in hexadecimal, and each other line a push
+-- line 1 has the bounds, line 2 the message in hexadecimal, and each other line a push
 abbrev pub spelled_lines : List (List ℕ) → Result Spelled InputFault
 spelled_lines all = do
-  place ← line_or_fault 1 (option_and_then place_of (slice_get all 0))
+  bounds ← line_or_fault 1 (option_and_then data_bounds_of (slice_get all 0))
   message ← line_or_fault 2 (option_and_then hexadecimal_octets (slice_get all 1))
-  pushes ← first_fault_or (place_fault place (length message)) (pushes_of 3 (drop 2 all))
+  pushes ← first_fault_or (bounds_fault bounds (length message)) (pushes_of 3 (drop 2 all))
   Ok (record {
     message = message;
-    start = place.start;
-    len = place.len;
-    limit = place.limit;
+    start = bounds.start;
+    len = bounds.len;
+    limit = bounds.limit;
     pushes = pushes;
   })
 

@@ -7,8 +7,8 @@ use Rattle.svcbedit.specs.declared.spelling.Spelling.{Spelling}
 abbrev pub spelled_view : Spelling → Spelled
 spelled_view s = record {
   message = s.message;
-  start = s.place.start;
-  len = s.place.len;
-  limit = s.place.limit;
+  start = s.bounds.start;
+  len = s.bounds.len;
+  limit = s.bounds.limit;
   pushes = map value_of s.pushes.items;
 }

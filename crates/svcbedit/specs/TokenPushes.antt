@@ -9,20 +9,20 @@ use Rattle.text_spec.specs.declared.lexeme.Symbol.{Symbol}
 use Rattle.text_spec.specs.Scanning.{octets_of}
 use Rattle.text_spec.specs.Tokens.{text_fault, tokens_in}
 use Rattle.svcb_spec.specs.ParamTexts.{spells}
-use Rattle.svcbedit.specs.Places.{◌>>=◌}
+use Rattle.svcbedit.specs.Bounds.{◌>>=◌}
 
 -- the tokens of a text that is an entry
 abbrev pub entry_tokens : List ℕ → Option (List (List Symbol))
 entry_tokens text = elim (text_fault text) [ None ↦ Some (tokens_in text) | Some fault ↦ None ]
 
 -- the token, where there is exactly one
-abbrev pub lone_token : List (List Symbol) → Option (List Symbol)
-lone_token (token ∷ []) = Some token
-lone_token _ = None
+abbrev pub only_one : List (List Symbol) → Option (List Symbol)
+only_one (token ∷ []) = Some token
+only_one _ = None
 
 -- the octets of the token of an entry that has exactly one
 abbrev pub lone_token : List ℕ → Option (List ℕ)
-lone_token text = entry_tokens text >>= lone_token >>= λ token. Some (octets_of token)
+lone_token text = entry_tokens text >>= only_one >>= λ token. Some (octets_of token)
 
 -- the value that they spell
 abbrev pub token_push : List ℕ → Option Value

@@ -4,7 +4,7 @@ ghost use Rattle.svcb_spec.specs.Rebuilding as spec;
 ghost use Rattle.svcb_spec.specs.Rebuilding.{rebuild};
 ghost use Rattle.svcb_rdata.specs.RebuiltView.{IsRefusal};
 ghost use Rattle.svcb_text.specs.AllValues.{value_of};
-ghost use Rattle.svcbedit.specs.Edit.{report_of, rebuild_report, edit_answer};
+ghost use Rattle.svcbedit.specs.Edit.{report_of, rebuild_report, due_of_edit};
 ghost use Rattle.svcbedit.specs.Report as report;
 ghost use Rattle.svcbedit.specs.ReportView.{answer_view};
 
@@ -33,21 +33,22 @@ pub fn refusal_answer(alloc: Global, error: RebuildError) -> Result<Answer, NoMe
 
 /// The answer to a well-formed input.
 fn rebuilt_answer(alloc: Global, spelling: &Spelling) -> Result<Answer, NoMemory>
-    requires place { spelling.now.place.start + spelling.now.place.len
+    requires within { spelling.now.bounds.start + spelling.now.bounds.len
         ≤ length spelling.now.message }
-    requires limit { spelling.now.place.limit < 2 ^ 31 }
-    ensures { IfOk result (λ answer. answer_view answer ≡ rebuild_report (rebuild spelling.now.message
-        spelling.now.place.start spelling.now.place.len
-        (map value_of spelling.now.pushes.items) spelling.now.place.limit)) }
+    requires limit { spelling.now.bounds.limit < 2 ^ 31 }
+    ensures { IfOk result (λ answer.
+        answer_view answer ≡ rebuild_report (rebuild spelling.now.message
+        spelling.now.bounds.start spelling.now.bounds.len
+        (map value_of spelling.now.pushes.items) spelling.now.bounds.limit)) }
 {
-    let place = spelling.place;
+    let bounds = spelling.bounds;
     let outcome = rebuild_svcb(
         alloc,
         spelling.message.as_slice(),
-        place.start as usize,
-        place.len as usize,
+        bounds.start as usize,
+        bounds.len as usize,
         &spelling.pushes,
-        place.limit as usize,
+        bounds.limit as usize,
     );
     match outcome {
         Ok(rebuilt) => Ok(Answer {
@@ -61,7 +62,7 @@ fn rebuilt_answer(alloc: Global, spelling: &Spelling) -> Result<Answer, NoMemory
 /// The answer of `edit` to an input. Fails only with `NoMemory`.
 pub fn edit_answer(alloc: Global, input: &[u8]) -> Result<Answer, NoMemory>
     requires { length input.now ≤ MAX_INPUT }
-    ensures { IfOk result (λ answer. answer_view answer ≡ edit_answer input.now) }
+    ensures { IfOk result (λ answer. answer_view answer ≡ due_of_edit input.now) }
 {
     match read_spelling(alloc, input) {
         Ok(spelling) => rebuilt_answer(alloc, &spelling),

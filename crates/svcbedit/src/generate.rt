@@ -5,7 +5,7 @@ ghost use Rattle.name_spec.specs.Octets.{be2};
 ghost use Rattle.svcb_spec.specs.Params.{pair_wire};
 ghost use Rattle.svcb_text.specs.AllValues.{value_of};
 ghost use Rattle.svcb_rdata.specs.RebuiltView.{rebuilt_view};
-ghost use Rattle.svcbedit.specs.Generate.{own_message, own_push, pushes_at, pushes_below, is_accepted, is_duplicate, summary, summary_text, gen_answer};
+ghost use Rattle.svcbedit.specs.Generate.{own_message, own_push, pushes_at, pushes_below, is_accepted, is_duplicate, summary, summary_text, due_of_gen};
 ghost use Rattle.svcbedit.specs.Report.{done_answer};
 ghost use Rattle.svcbedit.specs.ReportView.{answer_view};
 
@@ -159,7 +159,8 @@ fn summary_of(rebuilt: &Rebuilt) -> Summary
 /// The answer where the data was rebuilt.
 fn summary_answer(alloc: Global, rebuilt: &Rebuilt) -> Result<Answer, NoMemory>
     requires { length rebuilt.now.octets ≤ 65535 }
-    ensures { IfOk result (λ answer. answer_view answer ≡ done_answer (summary (rebuilt_view rebuilt.now))) }
+    ensures { IfOk result (λ answer.
+        answer_view answer ≡ done_answer (summary (rebuilt_view rebuilt.now))) }
 {
     let summary = summary_of(rebuilt);
     Ok(Answer {
@@ -170,7 +171,7 @@ fn summary_answer(alloc: Global, rebuilt: &Rebuilt) -> Result<Answer, NoMemory>
 
 /// The answer of `gen` to a count. Fails only with `NoMemory`.
 pub fn gen_answer(alloc: Global, count: u16) -> Result<Answer, NoMemory>
-    ensures { IfOk result (λ answer. answer_view answer ≡ gen_answer count) }
+    ensures { IfOk result (λ answer. answer_view answer ≡ due_of_gen count) }
 {
     let count = count.min(MAX_PARAMS);
     let message = own_message(alloc, count)?;

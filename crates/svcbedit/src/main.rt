@@ -5,13 +5,15 @@ ghost use Rattle.std.specs.Prelude.{◌≡◌};
 ghost use Rattle.svcbedit.specs.RunErrors.{status_without_words};
 
 use devices::{StdSink, StdSource};
+use exit_status::ExitStatus;
 use run::run;
-use run_error::RunError;
 use std::process::ExitCode;
 use std::{env, io};
 
 mod commands;
+mod data_bounds;
 mod edit;
+mod exit_status;
 mod generate;
 mod hexadecimal;
 pub mod laws;
@@ -19,7 +21,6 @@ mod lines;
 #[cfg(test)]
 mod long_tests;
 mod numbers;
-mod place;
 mod pushes;
 mod report;
 mod run;
@@ -46,8 +47,8 @@ fn status_without_words(kind: io::ErrorKind) -> u8
     ensures { result ≡ status_without_words kind }
 {
     match kind {
-        io::ErrorKind::OutOfMemory => RunError::NoMemory.status(),
-        _ => 7,
+        io::ErrorKind::OutOfMemory => ExitStatus::NoMemory.code(),
+        _ => ExitStatus::NoWords.code(),
     }
 }
 

@@ -1,14 +1,18 @@
 //! The texts of reports, and the status that goes with one.
 ghost use Rattle.std.specs.Prelude.{◌≡◌, ◌≢◌, ◌<◌, ◌++◌, string_bytes, IfOk};
 ghost use Rattle.hex.specs.Hex.{encode_lower};
-ghost use Rattle.svcbedit.specs.Faults.{refused_answer};
+ghost use Rattle.svcbedit.specs.ExitCodes.{exit_code};
+ghost use Rattle.svcbedit.specs.Faults.{due_of_fault};
 ghost use Rattle.svcbedit.specs.Report.{done_answer, line, reply_text, reply_lines, status_of};
 ghost use Rattle.svcbedit.specs.ReportView.{answer_view};
+ghost use Rattle.svcbedit.specs.declared.exit_status.ExitStatus.TheVariants as exit;
 
+use crate::exit_status::ExitStatus;
 use crate::spelling::InputFault;
 use std::alloc::Global;
 use svcb_rdata::{Rebuilt, Reply};
 use wire_base::NoMemory;
+use wire_records::Base16;
 
 /// How many octets the longest line of a reply has.
 const LONGEST_REPLY: usize = "duplicate key\n".len();
@@ -25,15 +29,16 @@ pub enum Outcome {
 }
 
 impl Outcome {
-    /// The status: 0, 2 or 3.
+    /// The status that the program ends with.
     pub fn status(self) -> u8
         ensures value { result ≡ status_of self }
-        ensures reported { (result < 4) × (result ≢ 1) }
+        ensures reported { (result < exit_code exit.ReadFault)
+            × (result ≢ exit_code exit.UnknownCommand) }
     {
         match self {
-            Outcome::Done => 0,
-            Outcome::BadInput => 2,
-            Outcome::NotDone => 3,
+            Outcome::Done => ExitStatus::Done.code(),
+            Outcome::BadInput => ExitStatus::BadInput.code(),
+            Outcome::NotDone => ExitStatus::NotDone.code(),
         }
     }
 }
@@ -58,7 +63,7 @@ pub fn text_answer(alloc: Global, outcome: Outcome, text: &str) -> Result<Answer
 
 /// The answer to an input with a fault of form. Fails only with `NoMemory`.
 pub fn refused_answer(alloc: Global, fault: InputFault) -> Result<Answer, NoMemory>
-    ensures { IfOk result (λ answer. answer_view answer ≡ refused_answer fault) }
+    ensures { IfOk result (λ answer. answer_view answer ≡ due_of_fault fault) }
 {
     Ok(Answer {
         outcome: Outcome::BadInput,
@@ -70,11 +75,13 @@ pub fn refused_answer(alloc: Global, fault: InputFault) -> Result<Answer, NoMemo
 pub fn octets_answer(alloc: Global, octets: &[u8]) -> Result<Answer, NoMemory>
     ensures { IfOk result (λ answer. answer_view answer ≡ done_answer (encode_lower octets.now)) }
 {
-    let mut report = hex::encode(alloc, octets)?;
-    report.push('\n')?;
+    let digits = Base16 {
+        octets,
+        is_upper: false,
+    };
     Ok(Answer {
         outcome: Outcome::Done,
-        report,
+        report: format!(in alloc; "{digits}\n")?,
     })
 }
 
@@ -114,7 +121,10 @@ pub fn done_report(alloc: Global, rebuilt: &Rebuilt) -> Result<String, NoMemory>
         .saturating_add(1);
     let mut report = String::with_capacity(alloc, room)?;
     push_replies(&mut report, replies)?;
-    report.push_str(&hex::encode(alloc, octets)?)?;
-    report.push('\n')?;
+    let digits = Base16 {
+        octets,
+        is_upper: false,
+    };
+    writeln!(report, "{digits}")?;
     Ok(report)
 }

@@ -6,19 +6,19 @@ ghost use Rattle.devices.specs.Faults.{Rose};
 ghost use Rattle.devices.specs.Takes.{TakesAtMost, TakesFront};
 ghost use Rattle.svcbedit.specs.Commands.{due, is_reading, reads_input};
 ghost use Rattle.svcbedit.specs.Devices.{Draws, Reports};
+ghost use Rattle.svcbedit.specs.ExitCodes.{exit_code};
 ghost use Rattle.svcbedit.specs.ReportView.{answer_view};
 ghost use Rattle.svcbedit.specs.Run.{Ends, Whole, TellsCommand, IsWriteFault, IsNoWriteFault, IsNoReadFault};
 ghost use Rattle.svcbedit.specs.Words.{command_of};
+ghost use Rattle.svcbedit.specs.declared.exit_status.ExitStatus.TheVariants as exit;
 
 use crate::commands::command_answer;
+use crate::exit_status::ExitStatus;
 use crate::report::Answer;
 use crate::run_error::RunError;
 use crate::words::{Command, command_in};
 use devices::{MAX_INPUT, Sink, Source, read_input, write_all};
 use std::alloc::Global;
-
-/// The status of words that are no command.
-const UNKNOWN_COMMAND: u8 = 1;
 
 /// The report on words that are no command. It stands ready, so that no memory is taken for it.
 const NO_COMMAND: &str = "refused: unknown command\n";
@@ -29,7 +29,8 @@ fn answer<S: Source>(alloc: Global, command: Command, source: &mut S) -> Result<
         (λ known. answer_view answer ≡ known)) }
     ensures cause { IfErr result IsNoWriteFault }
     ensures unread { OnFalse (is_reading command) (IfErr result IsNoReadFault) }
-    ensures source { Draws (is_reading command) S.left S.faults source.old source.new result }
+    ensures source { Draws (is_reading command) S.left S.faults S.empty_reads
+        source.old source.new result }
 {
     if !command.reads_input() {
         return Ok(command_answer(alloc, command, &[])?);
@@ -40,9 +41,9 @@ fn answer<S: Source>(alloc: Global, command: Command, source: &mut S) -> Result<
 
 /// Writes a report, and gives its status.
 fn report<K: Sink>(sink: &mut K, status: u8, text: &str) -> Result<u8, RunError>
-    requires { status < 4 }
+    requires { status < exit_code exit.ReadFault }
     ensures status { MatchResult result (λ given. given ≡ status) IsWriteFault }
-    ensures sink { Reports K.held K.faults sink.old sink.new
+    ensures sink { Reports K.held K.faults K.empty_writes sink.old sink.new
         (Some (record { status = status; report = text.now })) result }
 {
     write_all(sink, text.as_bytes())?;
@@ -59,12 +60,12 @@ fn perform<S: Source, K: Sink>(
     ensures status { TellsCommand (command_of words.now) result }
     ensures unread { OnFalse (reads_input (command_of words.now)) (IfErr result IsNoReadFault) }
     ensures source { Draws (reads_input (command_of words.now))
-        S.left S.faults source.old source.new result }
-    ensures sink { Reports K.held K.faults sink.old sink.new
+        S.left S.faults S.empty_reads source.old source.new result }
+    ensures sink { Reports K.held K.faults K.empty_writes sink.old sink.new
         (due (command_of words.now) (S.left source.old)) result }
 {
     let Some(command) = command_in(words) else {
-        return report(sink, UNKNOWN_COMMAND, NO_COMMAND);
+        return report(sink, ExitStatus::UnknownCommand.code(), NO_COMMAND);
     };
     let answer = answer(alloc, command, source)?;
     report(sink, answer.outcome.status(), answer.report.as_str())
@@ -85,13 +86,14 @@ pub fn run<S: Source, K: Sink>(alloc: Global, words: &[String], source: &mut S, 
         (K.held sink.old) (K.held sink.new) }
 
     // Words that are no command are refused, and no others are. No memory is taken then.
-    ensures unknown { command_of words.now ≡ None → (result ≡ 1) ⊎ (result ≡ 5) }
-    ensures known { IsSome (command_of words.now) → result ≢ 1 }
+    ensures unknown { command_of words.now ≡ None
+        → (result ≡ exit_code exit.UnknownCommand) ⊎ (result ≡ exit_code exit.WriteFault) }
+    ensures known { IsSome (command_of words.now) → result ≢ exit_code exit.UnknownCommand }
 
     // Only a command that reads does so. It takes all that an input may have, and whatever the status
     // at most one octet beyond it.
     ensures unread { OnFalse (reads_input (command_of words.now)) (source.new ≡ source.old) }
-    ensures end { IsTrue (reads_input (command_of words.now)) → result < 4 →
+    ensures end { IsTrue (reads_input (command_of words.now)) → result < exit_code exit.ReadFault →
         IfSome (S.left source.old)
         (λ bytes. length bytes ≤ MAX_INPUT → IsAtEnd (S.left source.new)) }
     ensures most { TakesAtMost (S.left source.old) (S.left source.new) (MAX_INPUT + 1) }
@@ -104,19 +106,32 @@ pub fn run<S: Source, K: Sink>(alloc: Global, words: &[String], source: &mut S, 
     // Where neither device fails, the answer that is due is given, or memory is wanting.
     ensures complete { ¬ (Rose (S.faults source.old) (S.faults source.new))
         → ¬ (Rose (K.faults sink.old) (K.faults sink.new))
-        → IfSome (due (command_of words.now) (S.left source.old)) (λ answer. (result ≡ 6)
-        ⊎ ((result ≡ answer.status) × Whole answer (K.held sink.old) (K.held sink.new))) }
+        → IfSome (due (command_of words.now) (S.left source.old)) (λ answer.
+        (result ≡ exit_code exit.NoMemory) ⊎ ((result ≡ answer.status)
+        × Whole answer (K.held sink.old) (K.held sink.new))) }
 
     // A fault is answered only where the device's count of faults rose, and a read fault only where
     // the command reads; each other status leaves that count.
-    ensures read_fault { result ≡ 4 → Rose (S.faults source.old) (S.faults source.new) }
-    ensures no_read { OnFalse (reads_input (command_of words.now)) (result ≢ 4) }
-    ensures write_fault { result ≡ 5 → Rose (K.faults sink.old) (K.faults sink.new) }
-    ensures reads { result ≢ 4 → S.faults source.new ≡ S.faults source.old }
-    ensures writes { result ≢ 5 → K.faults sink.new ≡ K.faults sink.old }
+    ensures read_fault { result ≡ exit_code exit.ReadFault
+        → Rose (S.faults source.old) (S.faults source.new) }
+    ensures no_read { OnFalse (reads_input (command_of words.now))
+        (result ≢ exit_code exit.ReadFault) }
+    ensures write_fault { result ≡ exit_code exit.WriteFault
+        → Rose (K.faults sink.old) (K.faults sink.new) }
+    ensures reads { result ≢ exit_code exit.ReadFault
+        → S.faults source.new ≡ S.faults source.old }
+    ensures writes { result ≢ exit_code exit.WriteFault
+        → K.faults sink.new ≡ K.faults sink.old }
+
+    // A read that gives no octet is the last, and so is a write that fails. Each other write takes
+    // an octet.
+    ensures last_read { S.empty_reads source.new ≤ S.empty_reads source.old + 1 }
+    ensures last_write { K.empty_writes sink.new ≤ K.empty_writes sink.old + 1 }
+    ensures each_write { result ≢ exit_code exit.WriteFault
+        → K.empty_writes sink.new ≡ K.empty_writes sink.old }
 {
     match perform(alloc, words, source, sink) {
         Ok(status) => status,
-        Err(stop) => stop.status(),
+        Err(error) => error.status(),
     }
 }

@@ -2,6 +2,7 @@
 ghost use Rattle.std.specs.Prelude.{◌≡◌};
 ghost use Rattle.svcbedit.specs.RunErrors.{run_error_status};
 
+use crate::exit_status::ExitStatus;
 use devices::{Failed, ReadError};
 use thiserror::Error;
 use wire_base::NoMemory;
@@ -21,14 +22,14 @@ pub enum RunError {
 }
 
 impl RunError {
-    /// The status: 4, 5 or 6.
+    /// The status that the program ends with.
     pub fn status(self) -> u8
         ensures { result ≡ run_error_status self }
     {
         match self {
-            RunError::ReadFault => 4,
-            RunError::WriteFault => 5,
-            RunError::NoMemory => 6,
+            RunError::ReadFault => ExitStatus::ReadFault.code(),
+            RunError::WriteFault => ExitStatus::WriteFault.code(),
+            RunError::NoMemory => ExitStatus::NoMemory.code(),
         }
     }
 }

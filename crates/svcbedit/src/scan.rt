@@ -4,7 +4,7 @@ ghost use Rattle.text_spec.specs.Scanning.{Answers};
 ghost use Rattle.record_spec.specs.UnionTexts.{union_scan};
 ghost use Rattle.rdata_union.specs.Views.{data_of_zone};
 ghost use Rattle.svcbedit.specs.ReportView.{answer_view};
-ghost use Rattle.svcbedit.specs.Scan.{entry_scanned, scan_answer};
+ghost use Rattle.svcbedit.specs.Scan.{entry_scanned, due_of_scan};
 
 use crate::report::{Answer, Outcome, octets_answer};
 use dns_text::{Entry, EntryScanner, ScanError};
@@ -22,7 +22,7 @@ fn scan_data(alloc: Global, rtype: Rtype, text: &[u8]) -> Result<ZoneRecordData,
 
 /// The answer of `scan` to an input. Fails only with `NoMemory`.
 pub fn scan_answer(alloc: Global, rtype: Rtype, input: &[u8]) -> Result<Answer, NoMemory>
-    ensures { IfOk result (λ answer. answer_view answer ≡ scan_answer rtype input.now) }
+    ensures { IfOk result (λ answer. answer_view answer ≡ due_of_scan rtype input.now) }
 {
     match scan_data(alloc, rtype, input) {
         Ok(found) => {

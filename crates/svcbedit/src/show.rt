@@ -1,7 +1,7 @@
 //! What answers `show`.
 ghost use Rattle.std.specs.Prelude.{◌≡◌, IfOk};
 ghost use Rattle.svcbedit.specs.ReportView.{answer_view};
-ghost use Rattle.svcbedit.specs.Show.{data_in, data_shown, show_answer};
+ghost use Rattle.svcbedit.specs.Show.{data_in, data_shown, due_of_show};
 
 use crate::report::{Answer, Outcome, refused_answer, text_answer};
 use crate::spelling::{SpellError, read_octets};
@@ -34,7 +34,7 @@ fn octets_shown(alloc: Global, rtype: Rtype, octets: &[u8]) -> Result<Answer, No
 
 /// The answer of `show` to an input. Fails only with `NoMemory`.
 pub fn show_answer(alloc: Global, rtype: Rtype, input: &[u8]) -> Result<Answer, NoMemory>
-    ensures { IfOk result (λ answer. answer_view answer ≡ show_answer rtype input.now) }
+    ensures { IfOk result (λ answer. answer_view answer ≡ due_of_show rtype input.now) }
 {
     match read_octets(alloc, input) {
         Ok(octets) => octets_shown(alloc, rtype, octets.as_slice()),

@@ -2,17 +2,17 @@
 ghost use Rattle.std.specs.Prelude.{◌≡◌, ◌+◌, ◌^◌, ◌<◌, ◌≤◌, List, [], length, drop, map, Some, IfOk, IfErr, OnOk, slice_get, option_and_then};
 ghost use Rattle.svcb_text.specs.AllValues.{value_of};
 ghost use Rattle.svcbedit.specs.Lines.{lines};
-ghost use Rattle.svcbedit.specs.Places.{place_of};
+ghost use Rattle.svcbedit.specs.Bounds.{data_bounds_of};
 ghost use Rattle.svcbedit.specs.Pushes.{hexadecimal_octets};
-ghost use Rattle.svcbedit.specs.Faults.{fault_text, place_fault};
+ghost use Rattle.svcbedit.specs.Faults.{fault_text, bounds_fault};
 ghost use Rattle.svcbedit.specs.Show.{spelled_octets};
 ghost use Rattle.svcbedit.specs.Spelling.{line_or_fault, pushes_of, spelling_of, SpellsAs};
 ghost use Rattle.svcbedit.specs.SpellingView.{spelled_view};
 ghost use Rattle.svcbedit.specs.declared.spelling.SpellError.TheVariants as errors;
 
+use crate::data_bounds::{DataBounds, data_bounds_in};
 use crate::hexadecimal::octets_in;
 use crate::lines::Lines;
-use crate::place::{Place, place_in};
 use crate::pushes::push_in;
 use devices::MAX_INPUT;
 use std::alloc::{AllocFailed, Global};
@@ -32,8 +32,8 @@ const FIRST_PUSH: u64 = 3;
 pub enum InputFault {
     /// The line of this number, from 1 on, is missing or bad.
     BadLine(u64),
-    /// The place ends behind the message.
-    PlaceOutsideMessage,
+    /// The record data ends behind the message.
+    DataOutsideMessage,
     /// The limit is 2,147,483,648 or more.
     LimitTooLarge,
 }
@@ -44,7 +44,7 @@ impl fmt::Display for InputFault {
     fn fmt<W: fmt::Write>(&self, f: &mut fmt::Formatter<W>) -> fmt::Result {
         match self {
             InputFault::BadLine(number) => write!(f, "bad line {number}"),
-            InputFault::PlaceOutsideMessage => write!(f, "place outside message"),
+            InputFault::DataOutsideMessage => write!(f, "place outside message"),
             InputFault::LimitTooLarge => write!(f, "limit too large"),
         }
     }
@@ -91,17 +91,18 @@ impl<T: Drop> From<AllocFailed<T>> for SpellError {
 #[derive(Drop)]
 pub struct Spelling {
     pub message: Octets,
-    pub place: Place,
+    pub bounds: DataBounds,
     pub pushes: Vec<AllValues>,
 }
 
 /// Reads the first line.
-fn place_line(input: &mut Lines<'_>) -> Result<Place, InputFault>
-    ensures value { result ≡ line_or_fault 1 (option_and_then place_of (slice_get input.old 0)) }
+fn bounds_line(input: &mut Lines<'_>) -> Result<DataBounds, InputFault>
+    ensures value { result
+        ≡ line_or_fault 1 (option_and_then data_bounds_of (slice_get input.old 0)) }
     ensures rest { input.new ≡ drop 1 input.old }
 {
     let line = input.next();
-    line.and_then(place_in).ok_or(InputFault::BadLine(1))
+    line.and_then(data_bounds_in).ok_or(InputFault::BadLine(1))
 }
 
 /// Reads the next line, which has this number, as hexadecimal.
@@ -115,16 +116,16 @@ fn octets_line(alloc: Global, input: &mut Lines<'_>, number: u64) -> Result<Octe
     Ok(octets.ok_or(InputFault::BadLine(number))?)
 }
 
-/// Tests a place in a message of so many octets, and its limit.
-fn check_place(place: &Place, message_len: usize) -> Result<(), InputFault>
-    ensures fault { IfErr result (λ fault. place_fault place.now message_len ≡ Some fault) }
-    ensures within { OnOk result (place.now.start + place.now.len ≤ message_len) }
-    ensures limit { OnOk result (place.now.limit < 2 ^ 31) }
+/// Tests bounds in a message of so many octets, and their limit.
+fn check_bounds(bounds: &DataBounds, message_len: usize) -> Result<(), InputFault>
+    ensures fault { IfErr result (λ fault. bounds_fault bounds.now message_len ≡ Some fault) }
+    ensures within { OnOk result (bounds.now.start + bounds.now.len ≤ message_len) }
+    ensures limit { OnOk result (bounds.now.limit < 2 ^ 31) }
 {
-    if place.start as usize + place.len as usize > message_len {
-        return Err(InputFault::PlaceOutsideMessage);
+    if bounds.start as usize + bounds.len as usize > message_len {
+        return Err(InputFault::DataOutsideMessage);
     }
-    if place.limit >= LIMIT_END {
+    if bounds.limit >= LIMIT_END {
         return Err(InputFault::LimitTooLarge);
     }
     Ok(())
@@ -152,17 +153,17 @@ fn push_lines(alloc: Global, mut input: Lines<'_>) -> Result<Vec<AllValues>, Spe
 pub fn read_spelling(alloc: Global, input: &[u8]) -> Result<Spelling, SpellError>
     requires { length input.now ≤ MAX_INPUT }
     ensures value { SpellsAs spelled_view result (spelling_of input.now) }
-    ensures within { IfOk result (λ s. s.place.start + s.place.len ≤ length s.message) }
-    ensures limit { IfOk result (λ s. s.place.limit < 2 ^ 31) }
+    ensures within { IfOk result (λ s. s.bounds.start + s.bounds.len ≤ length s.message) }
+    ensures limit { IfOk result (λ s. s.bounds.limit < 2 ^ 31) }
 {
     let mut lines = Lines::new(input);
-    let place = place_line(&mut lines)?;
+    let bounds = bounds_line(&mut lines)?;
     let message = octets_line(alloc, &mut lines, 2)?;
-    check_place(&place, message.len())?;
+    check_bounds(&bounds, message.len())?;
     let pushes = push_lines(alloc, lines)?;
     Ok(Spelling {
         message,
-        place,
+        bounds,
         pushes,
     })
 }

@@ -22,7 +22,7 @@ pub enum Command {
 
 impl Command {
     /// Whether the command reads the input.
-    #[tactic(auto, unfolding(crate::specs::Commands::reads))]
+    #[tactic(auto, unfolding(crate::specs::Commands::is_reading))]
     pub fn reads_input(self) -> bool
         ensures { result ≡ is_reading self }
     {

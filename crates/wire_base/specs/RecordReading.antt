@@ -10,6 +10,11 @@ pub record DataRead (Seen : Type 0) : Type 0 where
   pub value : Seen
   pub next : ℕ
 
+-- data that reaches up to a place
+abbrev pub read_up_to : {V : Type 0} → ℕ → Result V Fault → Result (DataRead V) Fault
+read_up_to end (Ok found) = Ok (record { value = found; next = end })
+read_up_to end (Err fault) = Err fault
+
 -- The answer under a type number: nothing exactly where the type is another. Else the data that
 -- reading gives, as `seen` shows it, or the fault. Memory for what was read may be wanting.
 abbrev pub DataAnswers : {V Seen : Type 0}

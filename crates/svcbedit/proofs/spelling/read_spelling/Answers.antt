@@ -9,7 +9,7 @@ pub push_lines-requires : goal.push_lines-requires
 push_lines-requires c =
     let left : length c.octets_line.new.input ≡ length (drop 1 (drop 1 (lines c.args.input.now))) =
     ap length (c.octets_line.ensures.rest
-    ∙ ap (drop 1) (c.place_line.ensures.rest ∙ ap (drop 1) c.new-lines.ensures)) in
+    ∙ ap (drop 1) (c.bounds_line.ensures.rest ∙ ap (drop 1) c.new-lines.ensures)) in
     omega (
       arith,
       left,

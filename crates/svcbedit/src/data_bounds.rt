@@ -1,30 +1,30 @@
-//! The first line of an input of `edit`: a place in a message, and a limit.
+//! The first line of an input of `edit`: where record data stands in a message, and a limit.
 ghost use Rattle.std.specs.Prelude.{◌≡◌};
-ghost use Rattle.svcbedit.specs.Places.{place_of};
+ghost use Rattle.svcbedit.specs.Bounds.{data_bounds_of};
 
 use crate::lines::Pieces;
 use crate::numbers::number;
 
 /// Where record data stands in a message, and how long its parameters may become, in octets.
 #[derive(Clone, Copy, Debug, PartialEq, Eq)]
-pub struct Place {
+pub struct DataBounds {
     pub start: u32,
     pub len: u32,
     pub limit: u32,
 }
 
 /// Reads `START LEN LIMIT`.
-pub fn place_in(line: &[u8]) -> Option<Place>
-    ensures { result ≡ place_of line.now }
+pub fn data_bounds_in(line: &[u8]) -> Option<DataBounds>
+    ensures { result ≡ data_bounds_of line.now }
 {
     let mut words = Pieces::new(line, b' ');
-    let place = Place {
+    let bounds = DataBounds {
         start: number(words.next()?)?,
         len: number(words.next()?)?,
         limit: number(words.next()?)?,
     };
     match words.next() {
         Some(_) => None,
-        None => Some(place),
+        None => Some(bounds),
     }
 }

@@ -2,7 +2,7 @@
 use Rattle.std.specs.Prelude.{ℕ, Option, Some, None, List, [], ◌∷◌}
 use Rattle.svcbedit.specs.Lines.{words}
 use Rattle.svcbedit.specs.Numbers.{decimal_number}
-use Rattle.svcbedit.specs.declared.place.Place.{Place}
+use Rattle.svcbedit.specs.declared.data_bounds.DataBounds.{DataBounds}
 
 -- the next step, where the step before it gave a value
 infixl 10 ◌>>=◌
@@ -11,14 +11,14 @@ Some x >>= f = f x
 None >>= f = None
 
 -- three numbers
-abbrev pub place_of_words : List (List ℕ) → Option Place
-place_of_words (start ∷ len ∷ limit ∷ []) = do
+abbrev pub data_bounds_of_words : List (List ℕ) → Option DataBounds
+data_bounds_of_words (start ∷ len ∷ limit ∷ []) = do
   first ← decimal_number start
   count ← decimal_number len
   most ← decimal_number limit
   Some (record { start = first; len = count; limit = most })
-place_of_words _ = None
+data_bounds_of_words _ = None
 
 -- `START LEN LIMIT`
-abbrev pub place_of : List ℕ → Option Place
-place_of line = place_of_words (words line)
+abbrev pub data_bounds_of : List ℕ → Option DataBounds
+data_bounds_of line = data_bounds_of_words (words line)

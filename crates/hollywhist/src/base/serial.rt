@@ -1,0 +1,3 @@
+//! Serial numbers (RFC 1982).
+
+pub use wire_records::Serial;
