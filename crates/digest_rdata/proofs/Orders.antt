@@ -5,7 +5,7 @@ use Rattle.std.specs.Cmp.Lexicographic.{slice_cmp}
 use Rattle.name_spec.specs.CanonicalOrder.{canonical_order}
 use Rattle.record_spec.specs.Rows.{Row, Data}
 use Rattle.record_spec.specs.Wire.{numbers_wire, data_wire}
-use Rattle.record_spec.proofs.OctetLists.{equal, slice_cmp-append}
+use Rattle.name_spec.proofs.OctetOrders.{equal, slice_cmp-append}
 
 -- the fixed fields decide, which are equally long, and then the last field
 pub data_order : (row : Row) (x y : Data) (fixed fixed' : List ℕ)

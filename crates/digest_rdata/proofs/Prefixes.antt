@@ -4,7 +4,7 @@ use Rattle.std.proofs.lemmas.List.{take-append-drop, length-take-le}
 use Rattle.std.specs.Ordering.{nat_cmp, ordering_then, ordering_reverse}
 use Rattle.std.specs.Cmp.{nat_cmp_total}
 use Rattle.std.specs.Cmp.Lexicographic.{slice_cmp, lists_total}
-use Rattle.record_spec.proofs.OctetLists.{then_assoc, slice_cmp-append}
+use Rattle.name_spec.proofs.OctetOrders.{then_assoc, slice_cmp-append}
 use Rattle.digest_rdata.specs.Prefixes.{ComparesPrefix}
 
 -- the other way round

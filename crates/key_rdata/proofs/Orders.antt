@@ -3,7 +3,7 @@ use Rattle.std.proofs.Common.{◌≡◌, ℕ, List, ◌∷◌, ◌++◌, refl, s
 use Rattle.std.specs.Ordering.{nat_cmp, ordering_then}
 use Rattle.std.specs.Cmp.Lexicographic.{slice_cmp}
 use Rattle.record_spec.specs.Ipseckeys.{Gateway, NoGateway, Ipv4Gateway, Ipv6Gateway, NameGateway, gateway_type, gateway_wire, Ipseckey, ipseckey_wire, IsGateway}
-use Rattle.record_spec.proofs.OctetLists.{then_assoc, slice_cmp-append, name_wire-order}
+use Rattle.name_spec.proofs.OctetOrders.{then_assoc, slice_cmp-append, name_wire-order}
 use Rattle.key_rdata.specs.OctetsComparing.{octets_cmp}
 
 -- Behind their types, gateways decide before the key. The algorithm stands between the two.

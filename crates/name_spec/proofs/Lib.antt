@@ -5,3 +5,4 @@ pub mod OctetLaws
 pub mod NameTruncation
 mod Vectors
 pub mod AddressTexts
+pub mod OctetOrders
