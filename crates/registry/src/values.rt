@@ -109,16 +109,17 @@ pub trait ParseSvcParamValue<'a>: SvcParamValue + Sized + Drop {
     ghost reads: { ℕ → List ℕ → Result (Taken Seen) Fault };
 
     /// The value that the octets before the parser begin with, under a key. The parser then stands behind the value.
-    /// `Ok(None)` exactly where the type does not take the key; the parser then stays.
+    /// `Ok(None)` exactly where the type does not take the key; the parser is then unchanged.
     ///
-    /// `ShortInput`, `Form`: the fault of the octets, as `reads` says it. Never `NoMemory`. The parser then stays.
+    /// `ShortInput`, `Form`: the fault of the octets, as `reads` says it. Never `NoMemory`. The parser is then
+    /// unchanged.
     ///
     /// No clause says that the parser is still within its data: it always is, as `Parser::pos` and
     /// `Parser::remaining_octets` tell.
     fn parse_value(key: SvcParamKey, parser: &mut Parser<'a>) -> Result<Option<Self>, ParseError>
         ensures answer { ValueAnswers seen result (takes key) (reads key (octets_left parser.old)) }
-        ensures moved { parser.new
-            ≡ input_behind parser.old (octets_taken (takes key) (reads key (octets_left parser.old))) };
+        ensures moved { parser.new ≡ input_behind parser.old
+            (octets_taken (takes key) (reads key (octets_left parser.old))) };
 }
 
 /// A value that is composed to octets.
@@ -130,7 +131,7 @@ pub trait ComposeSvcParamValue: SvcParamValue {
     fn compose_len(&self) -> u16
         ensures { result ≡ length (octets self.now) };
 
-    /// Appends the value's octets. Fails only with `NoMemory`; the target then stays.
+    /// Appends the value's octets. Fails only with `NoMemory`; the target is then unchanged.
     fn compose_value(&self, target: &mut Vec<u8>) -> Result<(), NoMemory>
         ensures appends { AppendsOctets target.old.items target.new.items
             (octets self.now) result };
