@@ -43,7 +43,8 @@ impl<'t> Model for EntryScanner<'t> {
     } };
 
     ghost invariant = { λ scanner. record {
-      left : token_groups None scanner.lexemes ≡ drop scanner.taken (tokens_in scanner.entry.text.now);
+      left : token_groups None scanner.lexemes
+          ≡ drop scanner.taken (tokens_in scanner.entry.text.now);
       within : scanner.taken ≤ length (tokens_in scanner.entry.text.now);
       short : length (tokens_in scanner.entry.text.now) < 2 ^ 64;
     } };

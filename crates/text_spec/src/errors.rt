@@ -67,7 +67,7 @@ pub enum ScanError {
     WrongGateway,
     /// A type of gateways that is not known.
     UnknownGateway,
-    /// A key is owed and missing.
+    /// A key that must be there is missing.
     MissingKey,
     /// A record type whose data has no text of its own.
     UnknownType,
