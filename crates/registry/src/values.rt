@@ -16,6 +16,9 @@
 //! ghost use Rattle.std.specs.Prelude.{◌≡◌, ℕ, ◌==◌, length, nat_lt, Ok, Err, if◌then◌else◌};
 //! ghost use Rattle.name_spec.specs.Octets.{Short, be2, number_at};
 //!
+//! use registry::{ComposeSvcParamValue, Integer, ParseSvcParamValue, SvcParamKey, SvcParamValue};
+//! use wire_base::{NoMemory, ParseError, Parser};
+//!
 //! #[derive(Clone, Copy, Debug, PartialEq, Eq)]
 //! pub struct Weight(pub u16);
 //!
@@ -63,9 +66,9 @@
 //! }
 //! ```
 //!
-//! `parse_value` takes its number from `remaining_octets`, which `reads` speaks of, and then advances; it so needs no
-//! proof of its own. `parser.parse_u16()?` reads the same number, but its clauses speak of places in the message: after
-//! it one has to prove that the data before the parser has two octets.
+//! `parse_value` takes the number from `remaining_octets`, which are the octets that `reads` is given, and then
+//! advances; no proof file is needed so. `parser.parse_u16()?` reads the same number, but its clauses speak of places
+//! in the message: after it one has to prove that two octets of data were left there.
 //!
 //! Nothing asks that `reads` and `octets` belong together. That the octets of a value are read as that value is for the
 //! type's own crate to prove.
@@ -109,9 +112,10 @@ pub trait ParseSvcParamValue<'a>: SvcParamValue + Sized + Drop {
     ghost reads: { ℕ → List ℕ → Result (Taken Seen) Fault };
 
     /// The value that the octets before the parser begin with, under a key. The parser then stands behind the value.
-    /// `Ok(None)` exactly where the type does not take the key; the parser then stays.
+    /// `Ok(None)` exactly where the type does not take the key; the parser is then unchanged.
     ///
-    /// `ShortInput`, `Form`: the fault of the octets, as `reads` says it. Never `NoMemory`. The parser then stays.
+    /// `ShortInput`, `Form`: the fault of the octets, as `reads` says it. Never `NoMemory`. The parser is then
+    /// unchanged.
     ///
     /// No clause says that the parser is still within its data: it always is, as `Parser::pos` and
     /// `Parser::remaining_octets` tell.

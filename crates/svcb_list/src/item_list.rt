@@ -85,7 +85,7 @@ impl<T: ListType> ItemList<T> {
     /// The value that all octets before the end of the data are.
     ///
     /// `Form`, `ShortInput`: the octets have a fault, and [`ListType::check`] says which. `NoMemory`: allocation
-    /// failed. The parser then stays.
+    /// failed. The parser is then unchanged.
     pub fn parse(alloc: Global, parser: &mut Parser<'_>) -> Result<ItemList<T>, ParseError>
         ensures answer { GivesCopy (taking_all (octets_left parser.old)) result
             (whole_value T.fault T.value (octets_left parser.old)) }
@@ -161,7 +161,7 @@ impl<'a, T: ListType> ItemListRef<'a, T> {
     /// A view of the value that all octets before the end of the data are.
     ///
     /// `Form`, `ShortInput`: the octets have a fault, and [`ListType::check`] says which. Never `NoMemory`. The parser
-    /// then stays.
+    /// is then unchanged.
     pub fn parse(parser: &mut Parser<'a>) -> Result<ItemListRef<'a, T>, ParseError>
         ensures answer {
             Gives (λ view. taking_all (octets_left parser.old) (T.value view.slice.now)) result

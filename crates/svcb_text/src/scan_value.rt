@@ -25,6 +25,11 @@ use text_spec::ScanError;
 /// ghost use Rattle.registry.specs.Texts.{spelled_number};
 /// ghost use Rattle.text_spec.specs.declared.errors.ScanError.TheVariants.{BadNumber};
 ///
+/// use registry::{Integer, SvcParamKey};
+/// use std::alloc::Global;
+/// use svcb_text::ScanSvcParamValue;
+/// use text_spec::ScanError;
+///
 /// impl ScanSvcParamValue for Weight {
 ///     ghost Seen = { ℕ };
 ///

@@ -21,8 +21,7 @@ pub(crate) fn check_value_len(len: usize) -> Result<(), ScanError>
     }
 }
 
-/// The fault of a text whose value was not made: a failed allocation stays, and every other cause is the value's
-/// length.
+/// The fault of a text whose value was not made: `NoMemory` is kept, and every other cause is the value's length.
 pub(crate) fn value_fault(error: BuildValueError) -> ScanError
     ensures { result ≡ scan_fault_of error }
 {
@@ -39,8 +38,8 @@ pub(crate) fn or_fault<V>(made: Result<V, BuildValueError>) -> Result<V, ScanErr
     made.map_err(value_fault)
 }
 
-/// The fault of a text whose protocols are not made a value: a failed allocation stays, and every other cause is the
-/// value's length.
+/// The fault of a text whose protocols were not made a value: `NoMemory` is kept, and every other cause is the value's
+/// length.
 pub(crate) fn protocol_fault(error: BuildAlpnError) -> ScanError
     ensures { result ≡ protocol_fault error }
 {

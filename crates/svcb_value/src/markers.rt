@@ -14,7 +14,7 @@ use wire_base::{NoMemory, ParseError, Parser};
 pub struct NoDefaultAlpn;
 
 impl NoDefaultAlpn {
-    /// The value, which is never refused. It takes no octets: the parser stays.
+    /// The value. Never fails, and takes no octets: the parser is unchanged.
     pub fn parse(parser: &mut Parser<'_>) -> Result<NoDefaultAlpn, ParseError>
         ensures always { IsOk result }
         ensures stays { parser.new ≡ parser.old }
@@ -80,7 +80,7 @@ impl fmt::Display for NoDefaultAlpn {
 pub struct Ohttp;
 
 impl Ohttp {
-    /// The value, which is never refused. It takes no octets: the parser stays.
+    /// The value. Never fails, and takes no octets: the parser is unchanged.
     pub fn parse(parser: &mut Parser<'_>) -> Result<Ohttp, ParseError>
         ensures always { IsOk result }
         ensures stays { parser.new ≡ parser.old }

@@ -104,7 +104,7 @@ impl<T: OpaqueType> OpaqueValue<T> {
 
     /// The value of all octets that remain.
     ///
-    /// `Form`: more than 65,535 octets remain. `NoMemory`: allocation failed. The parser then stays.
+    /// `Form`: more than 65,535 octets remain. `NoMemory`: allocation failed. The parser is then unchanged.
     pub fn parse(alloc: Global, parser: &mut Parser<'_>) -> Result<OpaqueValue<T>, ParseError>
         ensures answer { GivesCopy (taking_all (octets_left parser.old)) result
             (whole_value long_fault T.value (octets_left parser.old)) }

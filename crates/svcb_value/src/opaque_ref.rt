@@ -58,7 +58,7 @@ impl<'a, T: OpaqueType> OpaqueRef<'a, T> {
 
     /// The view of all octets that remain.
     ///
-    /// `Form`: more than 65,535 octets remain. The parser then stays.
+    /// `Form`: more than 65,535 octets remain. The parser is then unchanged.
     pub fn parse(parser: &mut Parser<'a>) -> Result<OpaqueRef<'a, T>, ParseError>
         ensures answer {
             Gives (λ view. taking_all (octets_left parser.old) (T.value view.slice.now)) result

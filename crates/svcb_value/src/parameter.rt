@@ -47,7 +47,7 @@ pub fn put_param(target: &mut Vec<u8>, key: u16, value: &[u8])
     target.extend_from_slice(value).unwrap();
 }
 
-/// Makes room for a parameter and appends it. Fails only with `NoMemory`; the target then stays.
+/// Makes room for a parameter and appends it. Fails only with `NoMemory`; the target is then unchanged.
 pub(crate) fn compose_param(key: u16, value: &[u8], target: &mut Vec<u8>) -> Result<(), NoMemory>
     requires fits { length value.now < 65536 }
     ensures appends { AppendsOctets target.old.items target.new.items

@@ -49,7 +49,7 @@ impl Port {
 
     /// The port in the next two octets. The octets behind them are not read.
     ///
-    /// `ShortInput`: fewer than two octets remain. The parser then stays.
+    /// `ShortInput`: fewer than two octets remain. The parser is then unchanged.
     #[tactic(auto, using(crate::proofs::Ports::port_rules))]
     pub fn parse(parser: &mut Parser<'_>) -> Result<Port, ParseError>
         ensures answer { Gives (λ port. record { value = values.Port port; len = 2 }) result

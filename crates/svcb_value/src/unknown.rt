@@ -62,7 +62,7 @@ impl UnknownSvcParam {
 
     /// All octets that remain, as the value of a key.
     ///
-    /// `Form`: more than 65,535 octets remain. `NoMemory`: allocation failed. The parser then stays.
+    /// `Form`: more than 65,535 octets remain. `NoMemory`: allocation failed. The parser is then unchanged.
     pub fn parse(
         alloc: Global,
         key: SvcParamKey,
@@ -81,7 +81,7 @@ impl UnknownSvcParam {
 
     /// The parameter that comes next: its key, the length of its value, and the value.
     ///
-    /// `ShortInput`: one of them runs past the end. `NoMemory`: allocation failed. The parser then stays.
+    /// `ShortInput`: one of them runs past the end. `NoMemory`: allocation failed. The parser is then unchanged.
     pub fn parse_param(
         alloc: Global,
         parser: &mut Parser<'_>,
@@ -100,7 +100,7 @@ impl UnknownSvcParam {
     }
 
     /// Appends the parameter: its key, the length of its value, and the value. Fails only with `NoMemory`; the target
-    /// then stays.
+    /// is then unchanged.
     pub fn compose_param(&self, target: &mut Vec<u8>) -> Result<(), NoMemory>
         ensures appends { AppendsOctets target.old.items target.new.items
             (param_wire self.now) result }

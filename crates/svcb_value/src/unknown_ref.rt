@@ -51,7 +51,7 @@ impl<'a> UnknownSvcParamRef<'a> {
 
     /// All octets that remain, as the value of a key.
     ///
-    /// `Form`: more than 65,535 octets remain. The parser then stays.
+    /// `Form`: more than 65,535 octets remain. The parser is then unchanged.
     pub fn parse(
         key: SvcParamKey,
         parser: &mut Parser<'a>,
@@ -68,7 +68,7 @@ impl<'a> UnknownSvcParamRef<'a> {
 
     /// The parameter that comes next: its key, the length of its value, and the value.
     ///
-    /// `ShortInput`: one of them runs past the end. The parser then stays.
+    /// `ShortInput`: one of them runs past the end. The parser is then unchanged.
     pub fn parse_param(parser: &mut Parser<'a>) -> Result<UnknownSvcParamRef<'a>, ParseError>
         ensures answer { Gives (λ view. taking_param (seen_unknown view)) result
             (take_param (octets_left parser.old)) }
@@ -98,7 +98,7 @@ impl<'a> UnknownSvcParamRef<'a> {
     }
 
     /// Appends the parameter: its key, the length of its value, and the value. Fails only with `NoMemory`; the target
-    /// then stays.
+    /// is then unchanged.
     pub fn compose_param(&self, target: &mut Vec<u8>) -> Result<(), NoMemory>
         ensures appends { AppendsOctets target.old.items target.new.items
             (param_wire (seen_unknown self.now)) result }
