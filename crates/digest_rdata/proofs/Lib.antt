@@ -1,2 +1,3 @@
 mod Orders
 mod Parts
+pub mod Prefixes

@@ -3,3 +3,5 @@ pub mod FieldsView
 pub mod ScanningParts
 pub mod ComparingLaws
 pub mod LayoutParts
+pub mod Prefixes
+pub mod Making

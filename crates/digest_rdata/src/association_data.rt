@@ -1,6 +1,8 @@
 //! Record data of fixed fields and a last field.
 
 ghost use Rattle.std.specs.Prelude.{◌≡◌, ◌==◌, ◌+◌, ◌≤◌, ◌<◌, length, [], ◌∷◌, Some, IfOk, OnOk, OnErr, IsErrOf, refl};
+ghost use Rattle.std.specs.Ordering.{nat_cmp};
+ghost use Rattle.std.specs.Cmp.Lexicographic.{slice_cmp};
 ghost use Rattle.text_spec.specs.Layouts.{Token};
 ghost use Rattle.text_spec.specs.Scanning.{Scans, ScansPart};
 ghost use Rattle.dns_text.specs.Writing.{Writes, Shows};
@@ -13,10 +15,12 @@ ghost use Rattle.record_spec.specs.Texts.{scan_data, rest_encoded, fields_printe
 ghost use Rattle.record_spec.specs.Documents.{last_field_text, data_document};
 ghost use Rattle.digest_rdata.specs.LayoutParts.{data_items};
 ghost use Rattle.digest_rdata.specs.FieldsView.{FieldsView, data_of};
+ghost use Rattle.digest_rdata.specs.Making.{MakesData};
 
 use crate::association_fields::AssociationFields;
 use crate::last_field::EncodedOctets;
-use crate::octets::octets_fit;
+use crate::octets::count_octets;
+use crate::prefix::prefix_cmp;
 use dns_text::{Formatter, Scanner, ZonefileFmt};
 use record_spec::Encoding;
 use std::alloc::Global;
@@ -29,10 +33,12 @@ use wire_base::{
     Parser, RecordData, Rtype,
 };
 
-/// The data of a record with the fixed fields `F` and a last field that takes the rest, at most 65,535 octets in all.
-/// Contracts see the fields and the octets of the last field.
+/// The data of a record that ties a name to a key, a digest or a certificate: numbers in fixed fields `F`, and a last
+/// field of octets that takes the rest, at most 65,535 octets in all. [`Tlsa`](crate::Tlsa), [`Cds`](crate::Cds) and the
+/// others are this type over their own fields, so that reading, composing, scanning, printing and comparing stand once.
 ///
-/// Data is compared by its fixed fields in wire order, each as a number, then by the last field, octet by octet.
+/// Contracts see the fields and the octets of the last field. Data is compared by its fixed fields in wire order, each
+/// as a number, then by the last field, octet by octet.
 #[derive(Drop)]
 pub struct AssociationData<F: AssociationFields> {
     fields: F,
@@ -56,12 +62,21 @@ impl<F: AssociationFields> AssociationData<F> {
     ///
     /// `LongRecordData`: it would have more than 65,535 octets. The last field is then dropped.
     pub(crate) fn from_parts(fields: F, last: Octets) -> Result<AssociationData<F>, LongRecordData>
-        ensures made { IfOk result (λ made. made ≡ record { fields = fields; last = last }) }
-        ensures ok { OnOk result (fixed_len F.definition.fields + length last ≤ 65535) }
-        ensures long { OnErr result (65535 < fixed_len F.definition.fields + length last) }
+        ensures { MakesData (record { fields = fields; last = last })
+            (fixed_len F.definition.fields + length last) result }
     {
-        LongRecordData::check_append_len(usize::from(F::form().fixed_len), last.len())?;
+        AssociationData::<F>::check_last(&last)?;
         Ok(AssociationData { fields, last })
+    }
+
+    /// Tests whether data with this last field has at most 65,535 octets.
+    ///
+    /// `LongRecordData`: it would have more.
+    pub(crate) fn check_last(last: &Octets) -> Result<(), LongRecordData>
+        ensures ok { OnOk result (fixed_len F.definition.fields + length last.now ≤ 65535) }
+        ensures long { OnErr result (65535 < fixed_len F.definition.fields + length last.now) }
+    {
+        LongRecordData::check_append_len(usize::from(F::form().fixed_len), last.len())
     }
 
     /// The data of fields that are known to have at most 65,535 octets. No memory is taken.
@@ -74,9 +89,11 @@ impl<F: AssociationFields> AssociationData<F> {
 
     /// Reads the data in all octets before the end of the data, and copies it.
     ///
-    /// `ShortInput`: an octet of a fixed field is missing, or the last field has too few. `Form`: else, there are more
-    /// than 65,535 octets. `NoMemory`: the data has no fault, and the memory for the copy isn't there. The parser then
-    /// stays.
+    /// The first of these errors that applies is returned, and the parser is then unchanged.
+    ///
+    /// - `ShortInput`: an octet of a fixed field is missing, or the last field has fewer octets than the type asks for.
+    /// - `Form`: there are more than 65,535 octets.
+    /// - `NoMemory`: the data has no fault, but allocation failed.
     pub fn parse(alloc: Global, parser: &mut Parser<'_>) -> Result<AssociationData<F>, ParseError>
         ensures answer { GivesCopy (data_of F.numbers) result
             (read_data F.definition (octets_left parser.old)) }
@@ -99,12 +116,16 @@ impl<F: AssociationFields> AssociationData<F> {
     }
 
     /// Scans the data: a number text for each fixed field, and all tokens left, joined, as the last field; it has no
-    /// octets where no token is left.
+    /// octets where no token is left. The scanner then stands at the end of the entry.
     ///
-    /// `EndOfEntry`: no token is left for a fixed field. `BadNumber`: a token is no number text that fits its field;
-    /// the scanner then stands before it. `BadBase16`, `BadBase64`: the last field is no such text; the scanner then
-    /// stands before it. `LongRecord`: the data would have more than 65,535 octets. `NoMemory`: the memory for the
-    /// octets isn't there; the scanner then stays.
+    /// Each error leaves the scanner at a place of its own:
+    ///
+    /// - `EndOfEntry`: no token is left for a fixed field. The scanner stands at the end of the entry.
+    /// - `BadNumber`: a token is no number text that fits its field. The scanner stands before that token.
+    /// - `BadBase16`, `BadBase64`: the tokens left, joined, are not a text in that encoding. The scanner stands before
+    ///   the first of them.
+    /// - `LongRecord`: the data would have more than 65,535 octets. The scanner stands at the end of the entry.
+    /// - `NoMemory`: allocation failed. The scanner is where it was before the call.
     pub fn scan<S: Scanner>(alloc: Global, scanner: &mut S) -> Result<AssociationData<F>, ScanError>
         ensures { Scans (data_of F.numbers) (scan_data F.definition)
             (S.scan scanner.old) (S.scan scanner.new) result }
@@ -114,7 +135,7 @@ impl<F: AssociationFields> AssociationData<F> {
         scanner.rewind_on_no_memory(place, outcome)
     }
 
-    /// The same. Where memory is wanting, tokens may be taken.
+    /// The same, but tokens may have been taken where allocation fails.
     #[tactic(auto, using(crate::proofs::Parts::scan_parts))]
     fn scan_parts<S: Scanner>(
         alloc: Global,
@@ -133,8 +154,8 @@ impl<F: AssociationFields> AssociationData<F> {
 
     /// The octets that all tokens left, joined, spell; none where no token is left.
     ///
-    /// `BadBase16`, `BadBase64`: the tokens joined are no such text. `NoMemory`: the memory for the octets isn't there.
-    /// The scanner then stays.
+    /// `BadBase16`, `BadBase64`: the tokens joined are not a text in that encoding. `NoMemory`: allocation failed. The
+    /// scanner is unchanged after each.
     fn scan_last<S: Scanner>(alloc: Global, scanner: &mut S) -> Result<Octets, ScanError>
         ensures { Scans (λ octets. octets) (rest_encoded F.definition.encoding)
             (S.scan scanner.old) (S.scan scanner.new) result }
@@ -147,7 +168,7 @@ impl<F: AssociationFields> AssociationData<F> {
 
     /// Lays out the last field as a token; base16 is in upper case.
     ///
-    /// `NoMemory`: the memory for it isn't there. The layout then stays.
+    /// Fails only with `NoMemory`: allocation failed; the layout is unchanged.
     fn lay_out_last(&self, f: &mut Formatter) -> Result<(), NoMemory>
         ensures { Writes f.old (Token (last_field_text F.definition.encoding self.now.last) ∷ [])
             f.new result }
@@ -160,7 +181,7 @@ impl<F: AssociationFields> AssociationData<F> {
 
     /// Lays out the fixed fields and the last field.
     ///
-    /// `NoMemory`: the memory for it isn't there. A front of the items may be laid out then.
+    /// Fails only with `NoMemory`: allocation failed; a prefix of the items may be laid out.
     fn lay_out(&self, f: &mut Formatter) -> Result<(), NoMemory>
         ensures shows { Shows f.old (data_items F.definition (data_of F.numbers self.now))
             f.new result }
@@ -172,7 +193,7 @@ impl<F: AssociationFields> AssociationData<F> {
 
     /// A copy.
     ///
-    /// `NoMemory`: the memory for it isn't there.
+    /// Fails only with `NoMemory`: allocation failed.
     pub fn try_clone(&self, alloc: Global) -> Result<AssociationData<F>, NoMemory>
         ensures { IfOk result (λ copy. copy ≡ self.now) }
     {
@@ -206,9 +227,22 @@ impl<F: AssociationFields> AssociationData<F> {
 
     /// The count of octets.
     fn len(&self) -> u16
-        ensures { result ≡ length (data_wire F.definition (data_of F.numbers self.now)) }
+        ensures len { result ≡ length (data_wire F.definition (data_of F.numbers self.now)) }
+        ensures is_data { IsAssociationData F.definition (data_of F.numbers self.now) }
     {
-        F::form().fixed_len + self.last.len() as u16
+        let fixed = self.fields.octets();
+        let last = self.last.as_slice();
+        fixed.as_slice().len() as u16 + count_octets(last)
+    }
+
+    /// The order of the data's octets against others, as those of data of the same type that is held as octets.
+    pub fn octets_cmp(&self, octets: &[u8]) -> Ordering
+        ensures { result ≡ slice_cmp nat_cmp
+            (data_wire F.definition (data_of F.numbers self.now)) octets.now }
+    {
+        let fixed = self.fields().octets();
+        let (by_fields, rest) = prefix_cmp(fixed.as_slice(), octets);
+        by_fields.then(self.last().as_slice().cmp(rest))
     }
 }
 
@@ -267,15 +301,14 @@ impl<F: AssociationFields> ComposeRecordData for AssociationData<F> {
             ≡ Some (length (data_wire F.definition (data_of F.numbers self.now))) }
         ensures is_data { IsAssociationData F.definition (data_of F.numbers self.now) }
     {
-        self.fields().numbers_fit();
-        octets_fit(self.last().as_slice());
         Some(self.len())
     }
 
     fn compose_rdata(&self, target: &mut Vec<u8>) -> Result<(), NoMemory> {
         target.reserve(usize::from(self.len()))?;
-        self.fields.append(target);
-        target.extend_from_slice(self.last.as_slice()).unwrap();
+        let fixed = self.fields().octets();
+        target.extend_from_slice(fixed.as_slice()).unwrap();
+        target.extend_from_slice(self.last().as_slice()).unwrap();
         Ok(())
     }
 
@@ -308,15 +341,16 @@ impl<F: AssociationFields> ParseRecordData for AssociationData<F> {
     }
 }
 
-/// By the octets. Since numbers stand with the high octet first, this is the order of `cmp`.
+/// By the octets.
 impl<F: AssociationFields> CanonicalOrd for AssociationData<F> {
     ghost group = { λ _. F.definition.rtype };
 
     ghost canonical = { λ found. data_wire F.definition (data_of F.numbers found) };
 
     fn canonical_cmp(&self, other: &AssociationData<F>) -> Ordering {
-        self.fields.numbers_fit();
-        other.fields.numbers_fit();
-        self.cmp(other)
+        let fixed = self.fields.octets();
+        let others = other.fields.octets();
+        let by_fields = fixed.as_slice().cmp(others.as_slice());
+        by_fields.then(self.last.cmp(&other.last))
     }
 }

@@ -1,6 +1,6 @@
 //! What tells the types of record data apart.
 
-ghost use Rattle.std.specs.Prelude.{◌≡◌, ◌+◌, ◌≤◌, ◌==◌, ℕ, List, ◌++◌, Some, length, vec_len, vec_capacity};
+ghost use Rattle.std.specs.Prelude.{◌≡◌, ◌≤◌, ◌==◌, ℕ, List, ◌++◌, Some, length};
 ghost use Rattle.std.specs.Ordering.{nat_cmp};
 ghost use Rattle.std.specs.Cmp.Lexicographic.{pointwise, slice_cmp};
 ghost use Rattle.std.specs.Hash.{HashWrites};
@@ -15,7 +15,9 @@ ghost use Rattle.record_spec.specs.Comparing.{numbers_hash_input};
 ghost use Rattle.digest_rdata.specs.Forms.{IsFormOf};
 ghost use Rattle.digest_rdata.specs.ScanningParts.{scan_numbers};
 
+use crate::field_octets::FieldOctets;
 use crate::record_form::RecordForm;
+use crate::sealed::Sealed;
 use dns_text::{Formatter, Scanner};
 use std::alloc::Global;
 use std::fmt;
@@ -27,7 +29,10 @@ use wire_base::NoMemory;
 ///
 /// A type of fields says by `definition` which record it belongs to, and by `numbers` which numbers its fields are. It
 /// owes that these are read, composed, scanned, printed, laid out and compared as the definition says.
-pub trait AssociationFields: Copy + Ord + Hash + fmt::Debug + fmt::Display {
+///
+/// The trait is sealed: the six types of fields of this crate implement it, and no other type can. It is public so that
+/// a function can be generic over them.
+pub trait AssociationFields: Sealed + Copy + Ord + Hash + fmt::Debug + fmt::Display {
     /// The definition of the record.
     ghost definition: { Row };
 
@@ -46,39 +51,30 @@ pub trait AssociationFields: Copy + Ord + Hash + fmt::Debug + fmt::Display {
         requires { fixed_len definition.fields ≤ length octets.now }
         ensures { numbers result ≡ numbers_in definition.fields octets.now };
 
-    /// Appends the octets of the fields, for which there is room.
-    fn append(&self, target: &mut Vec<u8>)
-        requires { vec_len target.old + fixed_len definition.fields ≤ vec_capacity target.old }
-        ensures octets { target.new.items
-            ≡ target.old.items ++ numbers_wire definition.fields (numbers self.now) }
-        ensures len { vec_len target.new ≡ vec_len target.old + fixed_len definition.fields }
-        ensures capacity { vec_capacity target.old ≤ vec_capacity target.new };
+    /// The octets of the fields, in wire order. Each number fits its field.
+    fn octets(&self) -> FieldOctets
+        ensures wire { result ≡ numbers_wire definition.fields (numbers self.now) }
+        ensures len { length result ≡ fixed_len definition.fields }
+        ensures fit { AreNumbers definition.fields (numbers self.now) };
 
-    /// Scans the fields, a number text each. Where memory is wanting, tokens may be taken.
+    /// Scans the fields, a number text each.
     ///
-    /// `EndOfEntry`: no token is left for a field. `BadNumber`: a token is no number text that fits its field.
-    /// `NoMemory`: the memory for a token's octets isn't there.
+    /// - `EndOfEntry`: no token is left for a field. The scanner stands at the end of the entry.
+    /// - `BadNumber`: a token is no number text that fits its field. The scanner stands before that token.
+    /// - `NoMemory`: allocation failed. Tokens may have been taken.
     fn scan<S: Scanner>(alloc: Global, scanner: &mut S) -> Result<Self, ScanError>
         ensures { ScansPart numbers (scan_numbers definition)
             (S.scan scanner.old) (S.scan scanner.new) result };
 
     /// Lays out the fields.
     ///
-    /// `NoMemory`: the memory for it isn't there. A front of the items may be laid out then.
+    /// Fails only with `NoMemory`: allocation failed; a prefix of the items may be laid out.
     fn lay_out(&self, f: &mut Formatter) -> Result<(), NoMemory>
         ensures { Shows f.old (numbers_items definition.fields (numbers self.now)) f.new result };
-
-    /// Does nothing, and says that each number fits its field.
-    fn numbers_fit(self)
-        ensures { AreNumbers definition.fields (numbers self) };
 
     /// The fields are printed as their numbers, each with a space behind it.
     ghost prints: { (fields : Self)
         → Self.output fields ≡ Some (numbers_printed (numbers fields)) };
-
-    /// The octets of the fields are as many as the definition says.
-    ghost wire_len: { (fields : Self) → length (numbers_wire definition.fields (numbers fields))
-        ≡ fixed_len definition.fields };
 
     /// The data of the record is laid out as a document.
     ghost is_document: { (found : Data) → IsDocument (data_document definition found) };

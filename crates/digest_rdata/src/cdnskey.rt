@@ -1,16 +1,19 @@
 //! Record data of CDNSKEY.
 
-ghost use Rattle.std.specs.Prelude.{◌≡◌, ◌+◌, ◌≤◌, ◌<◌, ◌==◌, [], ◌∷◌, Some, refl, length, IfOk, OnOk, OnErr};
+ghost use Rattle.std.specs.Prelude.{◌≡◌, ◌+◌, ◌≤◌, ◌==◌, [], ◌∷◌, Some, refl, length};
 ghost use Rattle.std.specs.Ordering.{nat_cmp};
 ghost use Rattle.record_spec.specs.Rows.{cdnskey};
 ghost use Rattle.record_spec.specs.Texts.{numbers_printed};
 ghost use Rattle.record_spec.specs.DocumentLaws.{document-cdnskey};
 ghost use Rattle.digest_rdata.specs.ComparingLaws.{equal_three, then_three};
+ghost use Rattle.digest_rdata.specs.Making.{MakesData};
 
 use crate::association_data::AssociationData;
 use crate::association_fields::AssociationFields;
+use crate::field_octets::FieldOctets;
 use crate::octets::{split_u8, split_u16};
 use crate::record_form::RecordForm;
+use crate::sealed::Sealed;
 use dns_text::{Formatter, Scanner};
 use key_registry::SecurityAlgorithm;
 use record_spec::Encoding;
@@ -43,12 +46,10 @@ impl Cdnskey {
         algorithm: SecurityAlgorithm,
         public_key: Octets,
     ) -> Result<Cdnskey, LongRecordData>
-        ensures made { IfOk result (λ made. made ≡ record {
+        ensures { MakesData (record {
           fields = record { flags = flags; protocol = protocol; algorithm = algorithm };
           last = public_key;
-        }) }
-        ensures ok { OnOk result (4 + length public_key ≤ 65535) }
-        ensures long { OnErr result (65535 < 4 + length public_key) }
+        }) (4 + length public_key) result }
     {
         AssociationData::from_parts(
             CdnskeyFields {
@@ -89,6 +90,8 @@ impl Cdnskey {
     }
 }
 
+impl Sealed for CdnskeyFields {}
+
 impl AssociationFields for CdnskeyFields {
     ghost definition = { cdnskey };
 
@@ -117,13 +120,9 @@ impl AssociationFields for CdnskeyFields {
         }
     }
 
-    fn append(&self, target: &mut Vec<u8>) {
-        let flags = self.flags;
-        let protocol = self.protocol;
+    fn octets(&self) -> FieldOctets {
         let algorithm = u8::from(self.algorithm);
-        target.extend_from_slice(&flags.to_be_bytes()).unwrap();
-        target.extend_from_slice(&protocol.to_be_bytes()).unwrap();
-        target.extend_from_slice(&algorithm.to_be_bytes()).unwrap();
+        FieldOctets::from_u16(self.flags, self.protocol, algorithm)
     }
 
     fn scan<S: Scanner>(alloc: Global, scanner: &mut S) -> Result<CdnskeyFields, ScanError> {
@@ -140,13 +139,7 @@ impl AssociationFields for CdnskeyFields {
         f.write_number(self.algorithm)
     }
 
-    fn numbers_fit(self) {
-        let _number = u8::from(self.algorithm);
-    }
-
     ghost prints = { λ fields. refl };
-
-    ghost wire_len = { λ fields. refl };
 
     ghost is_document = { document-cdnskey };
 

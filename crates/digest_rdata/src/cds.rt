@@ -1,16 +1,19 @@
 //! Record data of CDS.
 
-ghost use Rattle.std.specs.Prelude.{◌≡◌, ◌+◌, ◌≤◌, ◌<◌, ◌==◌, [], ◌∷◌, Some, refl, length, IfOk, OnOk, OnErr};
+ghost use Rattle.std.specs.Prelude.{◌≡◌, ◌+◌, ◌≤◌, ◌==◌, [], ◌∷◌, Some, refl, length};
 ghost use Rattle.std.specs.Ordering.{nat_cmp};
 ghost use Rattle.record_spec.specs.Rows.{cds};
 ghost use Rattle.record_spec.specs.Texts.{numbers_printed};
 ghost use Rattle.record_spec.specs.DocumentLaws.{document-cds};
 ghost use Rattle.digest_rdata.specs.ComparingLaws.{equal_three, then_three};
+ghost use Rattle.digest_rdata.specs.Making.{MakesData};
 
 use crate::association_data::AssociationData;
 use crate::association_fields::AssociationFields;
+use crate::field_octets::FieldOctets;
 use crate::octets::{split_u8, split_u16};
 use crate::record_form::RecordForm;
+use crate::sealed::Sealed;
 use dns_text::{Formatter, Scanner};
 use key_registry::{DigestAlgorithm, SecurityAlgorithm};
 use record_spec::Encoding;
@@ -19,7 +22,24 @@ use std::fmt;
 use text_spec::ScanError;
 use wire_base::{LongRecordData, NoMemory, Octets, Rtype};
 
-/// The data of a CDS record (RFC 7344, section 3.1): a digest of a key for the parent zone.
+/// The data of a CDS record (RFC 7344, section 3.1): the digest of a key that a zone asks its parent zone to publish as
+/// DS record.
+///
+/// To scan it from the text of a zone file entry, as `60485 5 1 2BB183AF5F22588179A53B0A98631FAD1A292118`:
+///
+/// ```
+/// use digest_rdata::Cds;
+/// use dns_text::{Entry, EntryScanner, Scanner};
+/// use std::alloc::Global;
+/// use text_spec::ScanError;
+///
+/// fn scanned(alloc: Global, text: &[u8]) -> Result<Cds, ScanError> {
+///     let mut scanner = EntryScanner::new(Entry::from_text(text)?);
+///     let data = Cds::scan(alloc, &mut scanner)?;
+///     scanner.check_end()?;
+///     Ok(data)
+/// }
+/// ```
 pub type Cds = AssociationData<CdsFields>;
 
 /// The fixed fields of [`Cds`].
@@ -43,12 +63,10 @@ impl Cds {
         digest_type: DigestAlgorithm,
         digest: Octets,
     ) -> Result<Cds, LongRecordData>
-        ensures made { IfOk result (λ made. made ≡ record {
+        ensures { MakesData (record {
           fields = record { key_tag = key_tag; algorithm = algorithm; digest_type = digest_type };
           last = digest;
-        }) }
-        ensures ok { OnOk result (4 + length digest ≤ 65535) }
-        ensures long { OnErr result (65535 < 4 + length digest) }
+        }) (4 + length digest) result }
     {
         AssociationData::from_parts(
             CdsFields {
@@ -96,6 +114,8 @@ impl Cds {
     }
 }
 
+impl Sealed for CdsFields {}
+
 impl AssociationFields for CdsFields {
     ghost definition = { cds };
 
@@ -124,15 +144,10 @@ impl AssociationFields for CdsFields {
         }
     }
 
-    fn append(&self, target: &mut Vec<u8>) {
-        let key_tag = self.key_tag;
+    fn octets(&self) -> FieldOctets {
         let algorithm = u8::from(self.algorithm);
         let digest_type = u8::from(self.digest_type);
-        target.extend_from_slice(&key_tag.to_be_bytes()).unwrap();
-        target.extend_from_slice(&algorithm.to_be_bytes()).unwrap();
-        target
-            .extend_from_slice(&digest_type.to_be_bytes())
-            .unwrap();
+        FieldOctets::from_u16(self.key_tag, algorithm, digest_type)
     }
 
     fn scan<S: Scanner>(alloc: Global, scanner: &mut S) -> Result<CdsFields, ScanError> {
@@ -150,13 +165,7 @@ impl AssociationFields for CdsFields {
         f.write_number(self.digest_type)
     }
 
-    fn numbers_fit(self) {
-        let _numbers = (u8::from(self.algorithm), u8::from(self.digest_type));
-    }
-
     ghost prints = { λ fields. refl };
-
-    ghost wire_len = { λ fields. refl };
 
     ghost is_document = { document-cds };
 

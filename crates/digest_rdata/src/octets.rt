@@ -32,8 +32,12 @@ pub(crate) fn split_u32(octets: &[u8]) -> (u32, &[u8])
     (number, &octets[4..])
 }
 
-/// Does nothing, and says that each octet is below 256.
+/// The count of octets.
 #[tactic(auto, using(text_spec::proofs::EncodingTexts::AreOctets_from))]
-pub(crate) fn octets_fit(octets: &[u8])
-    ensures { AreOctets octets.now }
-{}
+pub(crate) fn count_octets(octets: &[u8]) -> u16
+    requires { length octets.now ≤ 65535 }
+    ensures len { result ≡ length octets.now }
+    ensures octets { AreOctets octets.now }
+{
+    octets.len() as u16
+}

@@ -1,13 +1,16 @@
 //! Record data of OPENPGPKEY.
 
-ghost use Rattle.std.specs.Prelude.{◌≡◌, ◌≤◌, ◌<◌, [], Some, refl, length, IfOk, OnOk, OnErr};
+ghost use Rattle.std.specs.Prelude.{◌≡◌, ◌≤◌, [], Some, refl, length};
 ghost use Rattle.record_spec.specs.Rows.{openpgpkey};
 ghost use Rattle.record_spec.specs.Texts.{numbers_printed};
 ghost use Rattle.record_spec.specs.DocumentLaws.{document-openpgpkey};
+ghost use Rattle.digest_rdata.specs.Making.{MakesData};
 
 use crate::association_data::AssociationData;
 use crate::association_fields::AssociationFields;
+use crate::field_octets::FieldOctets;
 use crate::record_form::RecordForm;
+use crate::sealed::Sealed;
 use dns_text::{Formatter, Scanner};
 use record_spec::Encoding;
 use std::alloc::Global;
@@ -38,14 +41,13 @@ impl Openpgpkey {
     ///
     /// `LongRecordData`: it would have more than 65,535 octets. The key is then dropped.
     pub fn try_new(key: Octets) -> Result<Openpgpkey, LongRecordData>
-        ensures made { IfOk result (λ made. made ≡ record {
+        ensures { MakesData (record {
           fields = record {};
           last = key;
-        }) }
-        ensures ok { OnOk result (length key ≤ 65535) }
-        ensures long { OnErr result (65535 < length key) }
+        }) (length key) result }
     {
-        AssociationData::from_parts(OpenpgpkeyFields, key)
+        Openpgpkey::check_last(&key)?;
+        Ok(Openpgpkey::new(key))
     }
 
     /// The key.
@@ -55,6 +57,8 @@ impl Openpgpkey {
         self.last()
     }
 }
+
+impl Sealed for OpenpgpkeyFields {}
 
 impl AssociationFields for OpenpgpkeyFields {
     ghost definition = { openpgpkey };
@@ -77,7 +81,9 @@ impl AssociationFields for OpenpgpkeyFields {
         OpenpgpkeyFields
     }
 
-    fn append(&self, _target: &mut Vec<u8>) {}
+    fn octets(&self) -> FieldOctets {
+        FieldOctets::first_of([0; 6], 0)
+    }
 
     fn scan<S: Scanner>(_alloc: Global, _scanner: &mut S) -> Result<OpenpgpkeyFields, ScanError> {
         Ok(OpenpgpkeyFields)
@@ -87,11 +93,7 @@ impl AssociationFields for OpenpgpkeyFields {
         Ok(())
     }
 
-    fn numbers_fit(self) {}
-
     ghost prints = { λ fields. refl };
-
-    ghost wire_len = { λ fields. refl };
 
     ghost is_document = { document-openpgpkey };
 

@@ -1,16 +1,19 @@
 //! Record data of SSHFP.
 
-ghost use Rattle.std.specs.Prelude.{◌≡◌, ◌+◌, ◌≤◌, ◌<◌, ◌==◌, [], ◌∷◌, Some, refl, length, IfOk, OnOk, OnErr};
+ghost use Rattle.std.specs.Prelude.{◌≡◌, ◌+◌, ◌≤◌, ◌==◌, [], ◌∷◌, Some, refl, length};
 ghost use Rattle.std.specs.Ordering.{nat_cmp};
 ghost use Rattle.record_spec.specs.Rows.{sshfp};
 ghost use Rattle.record_spec.specs.Texts.{numbers_printed};
 ghost use Rattle.record_spec.specs.DocumentLaws.{document-sshfp};
 ghost use Rattle.digest_rdata.specs.ComparingLaws.{equal_two, then_two};
+ghost use Rattle.digest_rdata.specs.Making.{MakesData};
 
 use crate::association_data::AssociationData;
 use crate::association_fields::AssociationFields;
+use crate::field_octets::FieldOctets;
 use crate::octets::split_u8;
 use crate::record_form::RecordForm;
+use crate::sealed::Sealed;
 use dns_text::{Formatter, Scanner};
 use key_registry::{SshfpAlgorithm, SshfpType};
 use record_spec::Encoding;
@@ -57,20 +60,13 @@ impl Sshfp {
         fingerprint_type: SshfpType,
         fingerprint: Octets,
     ) -> Result<Sshfp, LongRecordData>
-        ensures made { IfOk result (λ made. made ≡ record {
+        ensures { MakesData (record {
           fields = record { algorithm = algorithm; fingerprint_type = fingerprint_type };
           last = fingerprint;
-        }) }
-        ensures ok { OnOk result (2 + length fingerprint ≤ 65535) }
-        ensures long { OnErr result (65535 < 2 + length fingerprint) }
+        }) (2 + length fingerprint) result }
     {
-        AssociationData::from_parts(
-            SshfpFields {
-                algorithm,
-                fingerprint_type,
-            },
-            fingerprint,
-        )
+        Sshfp::check_last(&fingerprint)?;
+        Ok(Sshfp::new(algorithm, fingerprint_type, fingerprint))
     }
 
     /// The algorithm of the key.
@@ -94,6 +90,8 @@ impl Sshfp {
         self.last()
     }
 }
+
+impl Sealed for SshfpFields {}
 
 impl AssociationFields for SshfpFields {
     ghost definition = { sshfp };
@@ -121,13 +119,10 @@ impl AssociationFields for SshfpFields {
         }
     }
 
-    fn append(&self, target: &mut Vec<u8>) {
+    fn octets(&self) -> FieldOctets {
         let algorithm = u8::from(self.algorithm);
         let fingerprint_type = u8::from(self.fingerprint_type);
-        target.extend_from_slice(&algorithm.to_be_bytes()).unwrap();
-        target
-            .extend_from_slice(&fingerprint_type.to_be_bytes())
-            .unwrap();
+        FieldOctets::first_of([algorithm, fingerprint_type, 0, 0, 0, 0], 2)
     }
 
     fn scan<S: Scanner>(alloc: Global, scanner: &mut S) -> Result<SshfpFields, ScanError> {
@@ -142,13 +137,7 @@ impl AssociationFields for SshfpFields {
         f.write_decimal(u32::from(u8::from(self.fingerprint_type)))
     }
 
-    fn numbers_fit(self) {
-        let _numbers = (u8::from(self.algorithm), u8::from(self.fingerprint_type));
-    }
-
     ghost prints = { λ fields. refl };
-
-    ghost wire_len = { λ fields. refl };
 
     ghost is_document = { document-sshfp };
 

@@ -1,16 +1,19 @@
 //! Record data of TLSA.
 
-ghost use Rattle.std.specs.Prelude.{◌≡◌, ◌+◌, ◌≤◌, ◌<◌, ◌==◌, [], ◌∷◌, Some, refl, length, IfOk, OnOk, OnErr};
+ghost use Rattle.std.specs.Prelude.{◌≡◌, ◌+◌, ◌≤◌, ◌==◌, [], ◌∷◌, Some, refl, length};
 ghost use Rattle.std.specs.Ordering.{nat_cmp};
 ghost use Rattle.record_spec.specs.Rows.{tlsa};
 ghost use Rattle.record_spec.specs.Texts.{numbers_printed};
 ghost use Rattle.record_spec.specs.DocumentLaws.{document-tlsa};
 ghost use Rattle.digest_rdata.specs.ComparingLaws.{equal_three, then_three};
+ghost use Rattle.digest_rdata.specs.Making.{MakesData};
 
 use crate::association_data::AssociationData;
 use crate::association_fields::AssociationFields;
+use crate::field_octets::FieldOctets;
 use crate::octets::split_u8;
 use crate::record_form::RecordForm;
+use crate::sealed::Sealed;
 use dns_text::{Formatter, Scanner};
 use key_registry::{TlsaCertificateUsage, TlsaMatchingType, TlsaSelector};
 use record_spec::Encoding;
@@ -20,6 +23,19 @@ use text_spec::ScanError;
 use wire_base::{LongRecordData, NoMemory, Octets, Rtype};
 
 /// The data of a TLSA record (RFC 6698, section 2.1): a certificate of a TLS service, or its digest.
+///
+/// For `3 1 1` and the SHA-256 digest of a public key:
+///
+/// ```
+/// use digest_rdata::Tlsa;
+/// use key_registry::{TlsaCertificateUsage, TlsaMatchingType, TlsaSelector};
+/// use wire_base::{LongRecordData, Octets};
+///
+/// fn pinned(digest: Octets) -> Result<Tlsa, LongRecordData> {
+///     let usage = TlsaCertificateUsage::DANE_EE;
+///     Tlsa::try_new(usage, TlsaSelector::SPKI, TlsaMatchingType::SHA2_256, digest)
+/// }
+/// ```
 pub type Tlsa = AssociationData<TlsaFields>;
 
 /// The fixed fields of [`Tlsa`].
@@ -66,21 +82,13 @@ impl Tlsa {
         matching_type: TlsaMatchingType,
         association: Octets,
     ) -> Result<Tlsa, LongRecordData>
-        ensures made { IfOk result (λ made. made ≡ record {
+        ensures { MakesData (record {
           fields = record { usage = usage; selector = selector; matching_type = matching_type };
           last = association;
-        }) }
-        ensures ok { OnOk result (3 + length association ≤ 65535) }
-        ensures long { OnErr result (65535 < 3 + length association) }
+        }) (3 + length association) result }
     {
-        AssociationData::from_parts(
-            TlsaFields {
-                usage,
-                selector,
-                matching_type,
-            },
-            association,
-        )
+        Tlsa::check_last(&association)?;
+        Ok(Tlsa::new(usage, selector, matching_type, association))
     }
 
     /// How the certificate is used.
@@ -112,6 +120,8 @@ impl Tlsa {
     }
 }
 
+impl Sealed for TlsaFields {}
+
 impl AssociationFields for TlsaFields {
     ghost definition = { tlsa };
 
@@ -140,15 +150,11 @@ impl AssociationFields for TlsaFields {
         }
     }
 
-    fn append(&self, target: &mut Vec<u8>) {
+    fn octets(&self) -> FieldOctets {
         let usage = u8::from(self.usage);
         let selector = u8::from(self.selector);
         let matching_type = u8::from(self.matching_type);
-        target.extend_from_slice(&usage.to_be_bytes()).unwrap();
-        target.extend_from_slice(&selector.to_be_bytes()).unwrap();
-        target
-            .extend_from_slice(&matching_type.to_be_bytes())
-            .unwrap();
+        FieldOctets::first_of([usage, selector, matching_type, 0, 0, 0], 3)
     }
 
     fn scan<S: Scanner>(alloc: Global, scanner: &mut S) -> Result<TlsaFields, ScanError> {
@@ -165,17 +171,7 @@ impl AssociationFields for TlsaFields {
         f.write_number(self.matching_type)
     }
 
-    fn numbers_fit(self) {
-        let _numbers = (
-            u8::from(self.usage),
-            u8::from(self.selector),
-            u8::from(self.matching_type),
-        );
-    }
-
     ghost prints = { λ fields. refl };
-
-    ghost wire_len = { λ fields. refl };
 
     ghost is_document = { document-tlsa };
 

@@ -1,16 +1,19 @@
 //! Record data of ZONEMD.
 
-ghost use Rattle.std.specs.Prelude.{◌≡◌, ◌+◌, ◌≤◌, ◌<◌, ◌==◌, [], ◌∷◌, Some, refl, length, IfOk, OnOk, OnErr};
+ghost use Rattle.std.specs.Prelude.{◌≡◌, ◌+◌, ◌≤◌, ◌==◌, [], ◌∷◌, Some, refl, length};
 ghost use Rattle.std.specs.Ordering.{nat_cmp};
 ghost use Rattle.record_spec.specs.Rows.{zonemd};
 ghost use Rattle.record_spec.specs.Texts.{numbers_printed};
 ghost use Rattle.record_spec.specs.DocumentLaws.{document-zonemd};
 ghost use Rattle.digest_rdata.specs.ComparingLaws.{equal_three, then_three};
+ghost use Rattle.digest_rdata.specs.Making.{MakesData};
 
 use crate::association_data::AssociationData;
 use crate::association_fields::AssociationFields;
+use crate::field_octets::FieldOctets;
 use crate::octets::{split_u8, split_u32};
 use crate::record_form::RecordForm;
+use crate::sealed::Sealed;
 use dns_text::{Formatter, Scanner};
 use key_registry::{ZonemdAlgorithm, ZonemdScheme};
 use record_spec::Encoding;
@@ -67,21 +70,13 @@ impl Zonemd {
         algorithm: ZonemdAlgorithm,
         digest: Octets,
     ) -> Result<Zonemd, LongRecordData>
-        ensures made { IfOk result (λ made. made ≡ record {
+        ensures { MakesData (record {
           fields = record { serial = serial; scheme = scheme; algorithm = algorithm };
           last = digest;
-        }) }
-        ensures ok { OnOk result (6 + length digest ≤ 65535) }
-        ensures long { OnErr result (65535 < 6 + length digest) }
+        }) (6 + length digest) result }
     {
-        AssociationData::from_parts(
-            ZonemdFields {
-                serial,
-                scheme,
-                algorithm,
-            },
-            digest,
-        )
+        Zonemd::check_last(&digest)?;
+        Ok(Zonemd::new(serial, scheme, algorithm, digest))
     }
 
     /// The serial number of the zone.
@@ -113,6 +108,8 @@ impl Zonemd {
     }
 }
 
+impl Sealed for ZonemdFields {}
+
 impl AssociationFields for ZonemdFields {
     ghost definition = { zonemd };
 
@@ -141,13 +138,11 @@ impl AssociationFields for ZonemdFields {
         }
     }
 
-    fn append(&self, target: &mut Vec<u8>) {
+    fn octets(&self) -> FieldOctets {
         let serial = self.serial.into_int();
         let scheme = u8::from(self.scheme);
         let algorithm = u8::from(self.algorithm);
-        target.extend_from_slice(&serial.to_be_bytes()).unwrap();
-        target.extend_from_slice(&scheme.to_be_bytes()).unwrap();
-        target.extend_from_slice(&algorithm.to_be_bytes()).unwrap();
+        FieldOctets::from_u32(serial, scheme, algorithm)
     }
 
     fn scan<S: Scanner>(alloc: Global, scanner: &mut S) -> Result<ZonemdFields, ScanError> {
@@ -164,17 +159,7 @@ impl AssociationFields for ZonemdFields {
         f.write_number(self.algorithm)
     }
 
-    fn numbers_fit(self) {
-        let _numbers = (
-            self.serial.into_int(),
-            u8::from(self.scheme),
-            u8::from(self.algorithm),
-        );
-    }
-
     ghost prints = { λ fields. refl };
-
-    ghost wire_len = { λ fields. refl };
 
     ghost is_document = { document-zonemd };
 

@@ -4,7 +4,7 @@ use Rattle.std.specs.Prelude.{◌==◌}
 use Rattle.text_spec.specs.declared.errors.ScanError.{ScanError}
 use Rattle.text_spec.specs.declared.errors.ScanError.TheVariants.{OpenQuote, BadBracket}
 use Rattle.text_spec.specs.declared.lexeme.Lexeme.{Lexeme}
-use Rattle.text_spec.specs.declared.lexeme.Place.{Place}
+use Rattle.text_spec.specs.declared.lexeme.LexerState.{LexerState}
 use Rattle.text_spec.specs.Lexing.{step, end_at, with_front, lexemes_at}
 use Rattle.text_spec.specs.Tokens.{start, found_in, tokens_in}
 use Rattle.text_spec.specs.Pieces.{token_groups}
@@ -17,35 +17,35 @@ length-with_front : (front : Lexeme) (answer : Result (List Lexeme) ScanError)
 length-with_front front (Ok lexemes) = omega arith
 length-with_front front (Err fault) = omega arith
 
-length-end_at : (place : Place) → length (found_in (end_at place)) ≡ 0
-length-end_at place =
-    elim place.quoted as
+length-end_at : (state : LexerState) → length (found_in (end_at state)) ≡ 0
+length-end_at state =
+    elim state.quoted as
     (λ q. length {A = Lexeme}
     (found_in {T = Lexeme}
-    (cond q (Err OpenQuote) (cond (place.depth == 0) (Ok []) (Err BadBracket)))) ≡ 0) [
+    (cond q (Err OpenQuote) (cond (state.depth == 0) (Ok []) (Err BadBracket)))) ≡ 0) [
       | true ↦ refl
-      | false ↦ elim (place.depth == 0) as
+      | false ↦ elim (state.depth == 0) as
           (λ b. length {A = Lexeme} (found_in {T = Lexeme} (cond b (Ok []) (Err BadBracket))) ≡ 0)
           [ true ↦ refl | false ↦ refl ]
     ]
 
 -- each lexeme has an octet of its own
-pub length-lexemes : (place : Place) (skip : ℕ) (text : List ℕ)
-    → length (found_in (lexemes_at place skip text)) ≤ length text
+pub length-lexemes : (state : LexerState) (skip : ℕ) (text : List ℕ)
+    → length (found_in (lexemes_at state skip text)) ≤ length text
 unfolding lexemes_at
-length-lexemes place skip [] = omega (arith, length-end_at place)
-length-lexemes place (suc skip) (c ∷ rest) = omega (arith, length-lexemes place skip rest)
-length-lexemes place zero (c ∷ rest) =
+length-lexemes state skip [] = omega (arith, length-end_at state)
+length-lexemes state (suc skip) (c ∷ rest) = omega (arith, length-lexemes state skip rest)
+length-lexemes state zero (c ∷ rest) =
     let by_front =
     ap (λ (r : Result (List Lexeme) ScanError). length (found_in r))
-    (lexemes_at-front place c rest) in
-    let most : length (found_in (after rest (step place c rest))) ≤ length rest + 1 =
-    elim (step place c rest) as (λ r. length (found_in (after rest r)) ≤ length rest + 1) [
+    (lexemes_at-front state c rest) in
+    let most : length (found_in (after rest (step state c rest))) ≤ length rest + 1 =
+    elim (step state c rest) as (λ r. length (found_in (after rest r)) ≤ length rest + 1) [
       | Err fault ↦ omega arith
       | Ok front ↦ omega (
         arith,
-        length-with_front front.lexeme (lexemes_at front.place front.len rest),
-        length-lexemes front.place front.len rest,
+        length-with_front front.lexeme (lexemes_at front.state front.len rest),
+        length-lexemes front.state front.len rest,
       )
     ] in
     omega (arith, by_front, most)

@@ -1,3 +1,4 @@
+mod BareOctets
 pub mod Lengths
 pub mod NameTexts
 pub mod Nesting

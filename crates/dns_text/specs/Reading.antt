@@ -1,10 +1,9 @@
 -- What the steps answer that read the text of an entry.
-use Rattle.std.specs.Prelude.{◌≡◌, ◌≤◌, ◌<◌, ℕ, ◌+◌, List, [], ◌∷◌, ◌++◌, length, Option, Some, None, Result, Ok, Err, IfOk, slice_get, drop}
-use Rattle.std.specs.Option.{option_map_or}
+use Rattle.std.specs.Prelude.{◌≡◌, ◌≤◌, ◌<◌, ℕ, ◌+◌, List, [], ◌∷◌, ◌++◌, length, Option, Some, None, Result, Ok, Err, IfOk, drop}
 use Rattle.text_spec.specs.declared.errors.ScanError.{ScanError}
 use Rattle.text_spec.specs.declared.lexeme.Symbol.{Symbol}
-use Rattle.text_spec.specs.declared.lexeme.Place.{Place}
-use Rattle.text_spec.specs.declared.lexeme.Front.{Front}
+use Rattle.text_spec.specs.declared.lexeme.LexerState.{LexerState}
+use Rattle.text_spec.specs.declared.lexeme.LexerStep.{LexerStep}
 use Rattle.text_spec.specs.declared.lexeme.Lexeme.{Lexeme}
 use Rattle.text_spec.specs.declared.lexeme.Lexeme.TheVariants.{Gap}
 use Rattle.text_spec.specs.Lexing.{with_front}
@@ -12,9 +11,9 @@ use Rattle.text_spec.specs.Pieces.{token_groups}
 use Rattle.text_spec.specs.Scanning.{Scan}
 
 -- what is read lies in the text, and opens at most one bracket
-abbrev pub StaysWithin : Place → List ℕ → Result Front ScanError → Type 0
-StaysWithin place rest result =
-    IfOk result (λ front. (front.len ≤ length rest) × (front.place.depth ≤ place.depth + 1))
+abbrev pub StaysWithin : LexerState → List ℕ → Result LexerStep ScanError → Type 0
+StaysWithin state rest result =
+    IfOk result (λ front. (front.len ≤ length rest) × (front.state.depth ≤ state.depth + 1))
 
 -- what a call answers that takes a lexeme, where the first of these lexemes were left before it and
 -- the others after it
@@ -38,11 +37,6 @@ GoesOn (Some symbol) old new =
     → token_groups (Some token) old ≡ token_groups (Some (token ++ symbol ∷ [])) new
 GoesOn None old new =
     (token : List Symbol) → token_groups (Some token) old ≡ token ∷ token_groups None new
-
--- the count of the next token's symbols
-abbrev pub token_len : List Lexeme → ℕ
-token_len lexemes =
-    option_map_or (λ token. length token) (slice_get (token_groups None lexemes) 0) 0
 
 -- a token is left, and these tokens are left behind it
 pub record IsBehindNext (scan : Scan) (left : List (List Symbol)) : Type 0 where

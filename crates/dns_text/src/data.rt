@@ -13,7 +13,7 @@ use wire_records::{A, Aaaa, UnknownRecordData};
 /// The data of an A record: the IPv4 address that the next token spells.
 ///
 /// `EndOfEntry`: no token is left. `BadAddress`: the token is no such address, as [`Ipv4Addr::from_bytes`] reads it.
-/// `NoMemory`: the memory for the token's octets isn't there. The scanner then stays.
+/// `NoMemory`: an allocation failed. The scanner is then unchanged.
 pub fn scan_a<S: Scanner>(alloc: Global, scanner: &mut S) -> Result<A, ScanError>
     ensures { Scans (λ address. address) ipv4_address
         (S.scan scanner.old) (S.scan scanner.new) result }
@@ -24,7 +24,7 @@ pub fn scan_a<S: Scanner>(alloc: Global, scanner: &mut S) -> Result<A, ScanError
 /// The data of an AAAA record: the IPv6 address that the next token spells.
 ///
 /// `EndOfEntry`: no token is left. `BadAddress`: the token is no such address, as [`Ipv6Addr::from_bytes`] reads it.
-/// `NoMemory`: the memory for the token's octets isn't there. The scanner then stays.
+/// `NoMemory`: an allocation failed. The scanner is then unchanged.
 pub fn scan_aaaa<S: Scanner>(alloc: Global, scanner: &mut S) -> Result<Aaaa, ScanError>
     ensures { Scans (λ address. address) ipv6_address
         (S.scan scanner.old) (S.scan scanner.new) result }
@@ -36,8 +36,8 @@ pub fn scan_aaaa<S: Scanner>(alloc: Global, scanner: &mut S) -> Result<Aaaa, Sca
 /// and all tokens left, joined, are the octets in base16.
 ///
 /// `EndOfEntry`: no token is left. `BadNumber`: the count is no number text of at most 65,535, or there are more or
-/// fewer octets than that. `NoMemory`: the memory for the octets isn't there. The scanner then stays. `BadBase16`: what
-/// follows the count is no base16 text. The scanner then stands behind the count.
+/// fewer octets than that. `NoMemory`: an allocation failed. The scanner is then unchanged. `BadBase16`: what follows
+/// the count is no base16 text. The scanner then stands behind the count.
 pub fn scan_unknown<S: Scanner>(
     alloc: Global,
     rtype: Rtype,
@@ -78,7 +78,7 @@ fn scan_ipv6<S: Scanner>(alloc: Global, scanner: &mut S) -> Result<Ipv6Addr, Sca
     scanner.rewind_unless_ok(place, outcome)
 }
 
-/// A count, and that many octets in base16. Where memory is wanting, the count may be taken.
+/// A count, and that many octets in base16. Where an allocation fails, the count may be taken.
 fn scan_counted<S: Scanner>(alloc: Global, scanner: &mut S) -> Result<Octets, ScanError>
     ensures octets { ScansPart (λ octets. octets) unknown_data
         (S.scan scanner.old) (S.scan scanner.new) result }

@@ -30,7 +30,7 @@ pub struct Entry<'t> {
 }
 
 impl<'t> Entry<'t> {
-    /// Reads a text once from left to right, and tests that it has no fault. It takes no memory.
+    /// Reads a text once from left to right, and tests that it has no fault. It allocates nothing.
     ///
     /// A refusal is the first fault of the text, in the order in which it is read:
     ///

@@ -43,14 +43,15 @@ impl<'t> Model for EntryScanner<'t> {
     } };
 
     ghost invariant = { λ scanner. record {
-      left : token_groups None scanner.lexemes ≡ drop scanner.taken (tokens_in scanner.entry.text.now);
+      left : token_groups None scanner.lexemes
+          ≡ drop scanner.taken (tokens_in scanner.entry.text.now);
       within : scanner.taken ≤ length (tokens_in scanner.entry.text.now);
       short : length (tokens_in scanner.entry.text.now) < 2 ^ 64;
     } };
 }
 
 impl<'t> EntryScanner<'t> {
-    /// A scanner of an entry's tokens, of which none is taken. It takes no memory.
+    /// A scanner of an entry's tokens, of which none is taken. It allocates nothing.
     pub fn new(entry: Entry<'t>) -> EntryScanner<'t>
         ensures { result ≡ record { tokens = tokens_in entry.entry.text.now; taken = 0 } }
     {
@@ -84,7 +85,7 @@ impl<'t> EntryScanner<'t> {
             IsBehindNext self.now (token_groups None found.1)) }
     {
         let mut lexemes = self.next_token()?;
-        let mut symbols = Vec::with_capacity(alloc, lexemes.token_len())?;
+        let mut symbols = Vec::new(alloc);
         while let Some(symbol) = lexemes.next_symbol() {
             symbols.push(symbol)?;
         }
@@ -99,7 +100,7 @@ impl<'t> EntryScanner<'t> {
             IsBehindNext self.now (token_groups None found.1)) }
     {
         let mut lexemes = self.next_token()?;
-        let mut octets = Vec::with_capacity(alloc, lexemes.token_len())?;
+        let mut octets = Vec::new(alloc);
         while let Some(symbol) = lexemes.next_symbol() {
             octets.push(symbol.octet)?;
         }

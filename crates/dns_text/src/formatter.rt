@@ -20,8 +20,10 @@ use std::marker::Model;
 use text_spec::DisplayKind;
 use wire_base::{Name, NoMemory, Octets};
 
-/// A layout that grows item by item. Contracts see the kind, the text so far, the count of open blocks, and whether the
-/// last thing written is a comment.
+/// The text of a document that is laid out item by item: tokens, blocks and comments, in one of the kinds of
+/// [`DisplayKind`].
+///
+/// Contracts see the kind, the text so far, the count of open blocks, and whether the last thing written is a comment.
 #[derive(Debug, Drop)]
 pub struct Formatter {
     kind: DisplayKind,
@@ -105,7 +107,7 @@ impl Formatter {
 
     /// Writes a token, behind a separator where something stands before it. A token without octets writes nothing.
     ///
-    /// `NoMemory`: the memory for it isn't there. The layout then stays.
+    /// `NoMemory`: an allocation failed; the layout is unchanged.
     pub fn write_token(&mut self, token: &[u8]) -> Result<(), NoMemory>
         ensures { Writes self.old (Token token.now ∷ []) self.new result }
     {
@@ -134,7 +136,7 @@ impl Formatter {
 
     /// Begins a block, which stands in brackets in Multiline.
     ///
-    /// `NoMemory`: the memory for the bracket isn't there. The layout then stays.
+    /// `NoMemory`: an allocation failed; the layout is unchanged.
     pub fn begin_block(&mut self) -> Result<(), NoMemory>
         ensures { Writes self.old (BlockBegin ∷ []) self.new result }
     {
@@ -144,7 +146,7 @@ impl Formatter {
 
     /// Ends the block that was begun last.
     ///
-    /// `NoMemory`: the memory for the bracket isn't there. The layout then stays.
+    /// `NoMemory`: an allocation failed; the layout is unchanged.
     pub fn end_block(&mut self) -> Result<(), NoMemory>
         requires { 0 < self.old.layout.blocks }
         ensures { Writes self.old (BlockEnd ∷ []) self.new result }
@@ -155,7 +157,7 @@ impl Formatter {
 
     /// Writes a comment, which Multiline alone shows, and within blocks alone: `; `, the text, a line feed and a tab.
     ///
-    /// `NoMemory`: the memory for it isn't there. The layout then stays.
+    /// `NoMemory`: an allocation failed; the layout is unchanged.
     pub fn write_comment(&mut self, text: &str) -> Result<(), NoMemory>
         requires { IsOneLine text.now }
         ensures { Writes self.old (Comment text.now ∷ []) self.new result }
@@ -177,7 +179,7 @@ impl Formatter {
     /// Writes what a value prints as a token. Where the type doesn't state what it prints, the token's text is not
     /// known.
     ///
-    /// `NoMemory`: the memory for it isn't there, or the value's own `fmt` refuses. The layout then stays.
+    /// `NoMemory`: an allocation failed, or the value's own `fmt` did; the layout is unchanged.
     pub fn write_display<T: Display>(&mut self, value: &T) -> Result<(), NoMemory>
         ensures token { IfSome (T.output value.now)
             (λ text. Writes self.old (Token text ∷ []) self.new result) }
@@ -189,7 +191,7 @@ impl Formatter {
 
     /// Writes a number in decimal digits as a token.
     ///
-    /// `NoMemory`: the memory for it isn't there. The layout then stays.
+    /// `NoMemory`: an allocation failed; the layout is unchanged.
     pub fn write_decimal(&mut self, value: u32) -> Result<(), NoMemory>
         ensures { Writes self.old (Token (decimal value) ∷ []) self.new result }
     {
@@ -198,7 +200,7 @@ impl Formatter {
 
     /// Writes a name with its final dot as a token.
     ///
-    /// `NoMemory`: the memory for it isn't there. The layout then stays.
+    /// `NoMemory`: an allocation failed; the layout is unchanged.
     pub fn write_name(&mut self, name: &Name) -> Result<(), NoMemory>
         ensures { Writes self.old (Token (printed_name_with_dot name.now) ∷ []) self.new result }
     {
@@ -208,7 +210,7 @@ impl Formatter {
     /// Writes the text of a registry's number as a token, and a comment of its name and mnemonic where comments name
     /// it.
     ///
-    /// `NoMemory`: the memory for both isn't there. The layout then stays.
+    /// `NoMemory`: an allocation failed; the layout is unchanged.
     pub fn write_number<T: IanaNumber>(&mut self, value: T) -> Result<(), NoMemory>
         ensures { Writes self.old
             (number_items (T.prints (T.number value)) T.COMMENT
@@ -243,7 +245,7 @@ impl Formatter {
 
     /// Writes octets in base64, with padding, as a token (RFC 4648, section 4).
     ///
-    /// `NoMemory`: the memory for it isn't there. The layout then stays.
+    /// `NoMemory`: an allocation failed; the layout is unchanged.
     pub fn write_base64(&mut self, octets: &[u8]) -> Result<(), NoMemory>
         ensures { Writes self.old (Token (base64_text octets.now) ∷ []) self.new result }
     {
@@ -253,7 +255,7 @@ impl Formatter {
 
     /// Writes octets in base16, in upper case, as a token (RFC 4648, section 8).
     ///
-    /// `NoMemory`: the memory for it isn't there. The layout then stays.
+    /// `NoMemory`: an allocation failed; the layout is unchanged.
     pub fn write_base16(&mut self, octets: &[u8]) -> Result<(), NoMemory>
         ensures { Writes self.old (Token (base16_text octets.now) ∷ []) self.new result }
     {
@@ -263,7 +265,7 @@ impl Formatter {
 
     /// Lays out a value's document.
     ///
-    /// `NoMemory`: its `fmt_zone` refuses so. A front of the items may be laid out then.
+    /// `NoMemory`: its `fmt_zone` failed so; a prefix of its items may have been laid out.
     pub fn write_show<T: ZonefileFmt>(&mut self, value: &T) -> Result<(), NoMemory>
         ensures { Shows self.old (T.document value.now) self.new result }
     {

@@ -1,9 +1,9 @@
 //! The lexemes of an entry, which its tokens are made of.
 
-ghost use Rattle.std.specs.Prelude.{◌≡◌, ◌≤◌, ◌<◌, ◌^◌, [], ◌∷◌, length, drop, None, IsSome, MatchOption, MatchBool};
+ghost use Rattle.std.specs.Prelude.{◌≡◌, ◌≤◌, ◌<◌, [], ◌∷◌, length, drop, None, IsSome, MatchOption, MatchBool};
 ghost use Rattle.text_spec.specs.Pieces.{token_groups};
 ghost use Rattle.text_spec.specs.Tokens.{tokens_in};
-ghost use Rattle.dns_text.specs.Reading.{BeginsToken, GoesOn, token_len};
+ghost use Rattle.dns_text.specs.Reading.{BeginsToken, GoesOn};
 
 use crate::entry::Entry;
 use crate::lexer::Lexer;
@@ -17,7 +17,7 @@ pub(crate) struct Lexemes<'t> {
 }
 
 impl<'t> Model for Lexemes<'t> {
-    ghost use Rattle.std.specs.Prelude.{◌≡◌, ◌<◌, ◌^◌, List, None, length};
+    ghost use Rattle.std.specs.Prelude.{◌≡◌, List, None};
     ghost use Rattle.text_spec.specs.declared.lexeme.Lexeme.{Lexeme};
     ghost use Rattle.text_spec.specs.Lexing.{lexemes_at};
     ghost use Rattle.text_spec.specs.Tokens.{fault_of, found_in};
@@ -25,12 +25,10 @@ impl<'t> Model for Lexemes<'t> {
     ghost Value = { List Lexeme };
 
     ghost view = { λ lexemes. found_in
-        (lexemes_at lexemes.lexer.place 0 lexemes.lexer.rest.now) };
+        (lexemes_at lexemes.lexer.state 0 lexemes.lexer.rest.now) };
 
-    ghost invariant = { λ lexemes. record {
-      no_fault : fault_of (lexemes_at lexemes.lexer.place 0 lexemes.lexer.rest.now) ≡ None;
-      short : length (found_in (lexemes_at lexemes.lexer.place 0 lexemes.lexer.rest.now)) < 2 ^ 64;
-    } };
+    ghost invariant = { λ lexemes.
+        fault_of (lexemes_at lexemes.lexer.state 0 lexemes.lexer.rest.now) ≡ None };
 }
 
 impl<'t> Lexemes<'t> {
@@ -43,12 +41,12 @@ impl<'t> Lexemes<'t> {
     }
 
     pub(crate) fn copy(&self) -> Lexemes<'t>
-        ensures same { result ≡ self.now }
-        ensures short { length self.now < 2 ^ 64 }
+        ensures { result ≡ self.now }
     {
         Lexemes { lexer: self.lexer }
     }
 
+    #[inline(always)]
     fn next(&mut self) -> Option<Lexeme>
         ensures { MatchOption result ((self.old ≡ []) × (self.new ≡ []))
             (λ lexeme. self.old ≡ lexeme ∷ self.new) }
@@ -76,6 +74,7 @@ impl<'t> Lexemes<'t> {
     }
 
     /// The next symbol of a token, or none where it ends.
+    #[inline(always)]
     pub(crate) fn next_symbol(&mut self) -> Option<Symbol>
         ensures symbol { GoesOn result self.old self.new }
         ensures shorter { IsSome result → length self.new < length self.old }
@@ -96,19 +95,5 @@ impl<'t> Lexemes<'t> {
         if self.find_token() {
             while self.next_symbol().is_some() {}
         }
-    }
-
-    /// The count of the next token's symbols.
-    pub(crate) fn token_len(&self) -> usize
-        ensures { result ≡ token_len self.now }
-    {
-        let mut lexemes = self.copy();
-        let mut len = 0;
-        if lexemes.find_token() {
-            while lexemes.next_symbol().is_some() {
-                len += 1;
-            }
-        }
-        len
     }
 }

@@ -1,14 +1,14 @@
 //! Reading the text of one entry from left to right.
 
-ghost use Rattle.std.specs.Prelude.{◌≡◌, ◌==◌, ◌+◌, ◌^◌, ◌≤◌, ◌<◌, [], length, IsSome, IfSome, IfOk, MatchResult};
-ghost use Rattle.text_spec.specs.Pieces.{is_blank, is_control};
-ghost use Rattle.text_spec.specs.Lexing.{escape_of, line_len, front_of, with_depth, in_quotes, symbol_step, quoted_step, ended_step, open_step, step, lexemes_at, end_at};
+ghost use Rattle.std.specs.Prelude.{◌≡◌, ◌==◌, ◌&&◌, ◌||◌, not, false, ◌+◌, ◌^◌, ◌≤◌, ◌<◌, [], length, IsSome, IfSome, IfOk, MatchResult};
+ghost use Rattle.text_spec.specs.Pieces.{is_bare, is_blank, is_control};
+ghost use Rattle.text_spec.specs.Lexing.{escape_of, line_len, step_of, with_depth, in_quotes, symbol_step, quoted_step, ended_step, open_step, step, lexemes_at, end_at};
 ghost use Rattle.text_spec.specs.Tokens.{start};
 ghost use Rattle.dns_text.specs.Reading.{StaysWithin, Takes};
 
-use text_spec::{Front, Lexeme, Place, ScanError, Symbol};
+use text_spec::{Lexeme, LexerState, LexerStep, ScanError, Symbol};
 
-const START: Place = Place {
+const START: LexerState = LexerState {
     depth: 0,
     quoted: false,
     ended: false,
@@ -55,43 +55,61 @@ fn is_control(octet: u8) -> bool
     octet < 32 || octet == 127
 }
 
-fn gap(place: Place, len: usize) -> Result<Front, ScanError>
-    ensures { result ≡ front_of Lexeme.Gap place len }
+// An octet that stands for itself.
+#[inline(always)]
+fn bare(octet: u8) -> Lexeme
+    ensures { result ≡ Lexeme.Octet (record { octet = octet; escaped = false }) }
 {
-    Ok(Front {
+    Lexeme::Octet(Symbol {
+        octet,
+        escaped: false,
+    })
+}
+
+fn gap(state: LexerState, len: usize) -> Result<LexerStep, ScanError>
+    ensures { result ≡ step_of Lexeme.Gap state len }
+{
+    Ok(LexerStep {
         lexeme: Lexeme::Gap,
-        place,
+        state,
         len,
     })
 }
 
+#[inline(always)]
+fn is_bare(octet: u8) -> bool
+    ensures { result ≡ is_bare octet }
+{
+    octet > b' ' && octet != 127 && !matches!(octet, b'"' | b'\\' | b';' | b'(' | b')')
+}
+
 // A line's end in the entry, which ends it outside brackets.
-fn line_end(place: Place) -> Result<Front, ScanError>
-    ensures { result ≡ front_of Lexeme.Gap (record place { ended = place.depth == 0 }) 0 }
+fn line_end(state: LexerState) -> Result<LexerStep, ScanError>
+    ensures { result ≡ step_of Lexeme.Gap (record state { ended = state.depth == 0 }) 0 }
 {
-    let ended = place.depth == 0;
-    gap(Place { ended, ..place }, 0)
+    let ended = state.depth == 0;
+    gap(LexerState { ended, ..state }, 0)
 }
 
-fn bracket(place: Place, depth: usize) -> Result<Front, ScanError>
-    ensures { result ≡ front_of Lexeme.Gap (with_depth place depth) 0 }
+fn bracket(state: LexerState, depth: usize) -> Result<LexerStep, ScanError>
+    ensures { result ≡ step_of Lexeme.Gap (with_depth state depth) 0 }
 {
-    gap(Place { depth, ..place }, 0)
+    gap(LexerState { depth, ..state }, 0)
 }
 
-fn quote(place: Place, quoted: bool) -> Result<Front, ScanError>
-    ensures { result ≡ front_of Lexeme.Quote (in_quotes place quoted) 0 }
+fn quote(state: LexerState, quoted: bool) -> Result<LexerStep, ScanError>
+    ensures { result ≡ step_of Lexeme.Quote (in_quotes state quoted) 0 }
 {
-    Ok(Front {
+    Ok(LexerStep {
         lexeme: Lexeme::Quote,
-        place: Place { quoted, ..place },
+        state: LexerState { quoted, ..state },
         len: 0,
     })
 }
 
-fn read_symbol(place: Place, first: u8, rest: &[u8]) -> Result<Front, ScanError>
-    ensures value { result ≡ symbol_step place first rest.now }
-    ensures within { StaysWithin place rest.now result }
+fn read_symbol(state: LexerState, first: u8, rest: &[u8]) -> Result<LexerStep, ScanError>
+    ensures value { result ≡ symbol_step state first rest.now }
+    ensures within { StaysWithin state rest.now result }
 {
     let (octet, escaped, len) = if first == b'\\' {
         let (octet, len) = escape(rest).ok_or(ScanError::BadEscape)?;
@@ -99,120 +117,136 @@ fn read_symbol(place: Place, first: u8, rest: &[u8]) -> Result<Front, ScanError>
     } else {
         (first, false, 0)
     };
-    Ok(Front {
+    Ok(LexerStep {
         lexeme: Lexeme::Octet(Symbol { octet, escaped }),
-        place,
+        state,
         len,
     })
 }
 
 // Within quotes, a line's end is no octet of a string, and a tab is.
-fn quoted_step(place: Place, first: u8, rest: &[u8]) -> Result<Front, ScanError>
-    ensures value { result ≡ quoted_step place first rest.now }
-    ensures within { StaysWithin place rest.now result }
+fn quoted_step(state: LexerState, first: u8, rest: &[u8]) -> Result<LexerStep, ScanError>
+    ensures value { result ≡ quoted_step state first rest.now }
+    ensures within { StaysWithin state rest.now result }
 {
     match first {
-        b'"' => quote(place, false),
-        b'\t' => read_symbol(place, first, rest),
+        b'"' => quote(state, false),
+        b'\t' => read_symbol(state, first, rest),
         _ if is_control(first) => Err(ScanError::BadSymbol),
-        _ => read_symbol(place, first, rest),
+        _ => read_symbol(state, first, rest),
     }
 }
 
 // Behind the line's end that ends the entry.
-fn ended_step(place: Place, first: u8, rest: &[u8]) -> Result<Front, ScanError>
-    ensures value { result ≡ ended_step place first rest.now }
-    ensures within { StaysWithin place rest.now result }
+fn ended_step(state: LexerState, first: u8, rest: &[u8]) -> Result<LexerStep, ScanError>
+    ensures value { result ≡ ended_step state first rest.now }
+    ensures within { StaysWithin state rest.now result }
 {
     if is_blank(first) || first == b'\n' {
-        gap(place, 0)
+        gap(state, 0)
     } else if first == b';' {
-        gap(place, line_length(rest))
+        gap(state, line_length(rest))
     } else {
         Err(ScanError::TrailingTokens)
     }
 }
 
 // In the entry, outside quotes.
-fn open_step(place: Place, first: u8, rest: &[u8]) -> Result<Front, ScanError>
-    requires { place.depth + 1 < 2 ^ 64 }
-    ensures value { result ≡ open_step place first rest.now }
-    ensures within { StaysWithin place rest.now result }
+fn open_step(state: LexerState, first: u8, rest: &[u8]) -> Result<LexerStep, ScanError>
+    requires { state.depth + 1 < 2 ^ 64 }
+    ensures value { result ≡ open_step state first rest.now }
+    ensures within { StaysWithin state rest.now result }
 {
-    let depth = place.depth;
+    let depth = state.depth;
     match first {
-        b'\n' => line_end(place),
-        b';' => gap(place, line_length(rest)),
-        b'(' => bracket(place, depth + 1),
+        b'\n' => line_end(state),
+        b';' => gap(state, line_length(rest)),
+        b'(' => bracket(state, depth + 1),
         b')' if depth == 0 => Err(ScanError::BadBracket),
-        b')' => bracket(place, depth - 1),
-        b'"' => quote(place, true),
-        _ if is_blank(first) => gap(place, 0),
+        b')' => bracket(state, depth - 1),
+        b'"' => quote(state, true),
+        _ if is_blank(first) => gap(state, 0),
         _ if is_control(first) => Err(ScanError::BadSymbol),
-        _ => read_symbol(place, first, rest),
+        _ => read_symbol(state, first, rest),
     }
 }
 
+// Whether an octet stands for itself here, as it does in quotes and outside.
+#[inline(always)]
+fn is_bare_at(state: LexerState, octet: u8) -> bool
+    ensures { result ≡ ((state.quoted || not state.ended) && is_bare octet) }
+{
+    (state.quoted || !state.ended) && is_bare(octet)
+}
+
+// Not inlined, so that the short way of `Lexer::next` stays small.
+#[inline(never)]
 #[tactic(auto, unfolding(text_spec::specs::Lexing::step))]
-fn step(place: Place, first: u8, rest: &[u8]) -> Result<Front, ScanError>
-    requires { place.depth + 1 < 2 ^ 64 }
-    ensures value { result ≡ step place first rest.now }
-    ensures within { StaysWithin place rest.now result }
+fn step(state: LexerState, first: u8, rest: &[u8]) -> Result<LexerStep, ScanError>
+    requires { state.depth + 1 < 2 ^ 64 }
+    ensures value { result ≡ step state first rest.now }
+    ensures within { StaysWithin state rest.now result }
 {
-    if place.quoted {
-        quoted_step(place, first, rest)
-    } else if place.ended {
-        ended_step(place, first, rest)
+    if state.quoted {
+        quoted_step(state, first, rest)
+    } else if state.ended {
+        ended_step(state, first, rest)
     } else {
-        open_step(place, first, rest)
+        open_step(state, first, rest)
     }
 }
 
-fn end_at(place: Place) -> Result<(), ScanError>
-    ensures { MatchResult result (λ _. end_at place ≡ Ok []) (λ fault. end_at place ≡ Err fault) }
+fn end_at(state: LexerState) -> Result<(), ScanError>
+    ensures { MatchResult result (λ _. end_at state ≡ Ok []) (λ fault. end_at state ≡ Err fault) }
 {
-    if place.quoted {
+    if state.quoted {
         Err(ScanError::OpenQuote)
-    } else if place.depth != 0 {
+    } else if state.depth != 0 {
         Err(ScanError::BadBracket)
     } else {
         Ok(())
     }
 }
 
-// A place in a text, from which the lexemes that are left are taken one by one.
+// A state in a text, from which the lexemes that are left are taken one by one.
 #[derive(Clone, Copy, Debug)]
 pub(crate) struct Lexer<'t> {
     pub(crate) rest: &'t [u8],
-    pub(crate) place: Place,
-    ghost room: { place.depth + length rest.now < 2 ^ 64 },
+    pub(crate) state: LexerState,
+    ghost room: { state.depth + length rest.now < 2 ^ 64 },
 }
 
 impl<'t> Lexer<'t> {
     pub(crate) fn new(text: &'t [u8]) -> Lexer<'t>
         ensures rest { result.rest.now ≡ text.now }
-        ensures place { result.place ≡ start }
+        ensures state { result.state ≡ start }
     {
         Lexer {
             rest: text,
-            place: START,
+            state: START,
         }
     }
 
-    // The next lexeme, or none at the text's end.
+    // The next lexeme, or none at the text's end. Octets that stand for themselves, which most do, are read without a
+    // step.
+    #[inline(always)]
     pub(crate) fn next(&mut self) -> Result<Option<Lexeme>, ScanError>
-        ensures taken { Takes result (lexemes_at self.old.place 0 self.old.rest.now)
-            (lexemes_at self.new.place 0 self.new.rest.now) }
+        ensures taken { Takes result (lexemes_at self.old.state 0 self.old.rest.now)
+            (lexemes_at self.new.state 0 self.new.rest.now) }
         ensures shorter { IfOk result (λ lexeme. IsSome lexeme →
             length self.new.rest.now < length self.old.rest.now) }
     {
         let Some((first, rest)) = self.rest.split_first() else {
-            end_at(self.place)?;
+            end_at(self.state)?;
             return Ok(None);
         };
-        let front = step(self.place, *first, rest)?;
-        self.rest = &rest[front.len..];
-        self.place = front.place;
-        Ok(Some(front.lexeme))
+        if is_bare_at(self.state, *first) {
+            self.rest = rest;
+            return Ok(Some(bare(*first)));
+        }
+        let read = step(self.state, *first, rest)?;
+        self.rest = &rest[read.len..];
+        self.state = read.state;
+        Ok(Some(read.lexeme))
     }
 }

@@ -2,7 +2,6 @@
 #![tactic(auto)]
 
 mod data;
-mod encodings;
 mod entry;
 mod entry_scanner;
 mod formatter;

@@ -19,7 +19,7 @@ const MAX_LABEL_OCTETS: usize = 254;
 
 /// The name that a token spells.
 ///
-/// `BadName`: the token is no name text. `NoMemory`: the memory for the name isn't there.
+/// `BadName`: the token is no name text. `NoMemory`: an allocation failed.
 pub(crate) fn read_name(alloc: Global, token: &[Symbol]) -> Result<Name, ScanError>
     ensures { Answers (λ name. name) result (by_name token.now) }
 {

@@ -6,20 +6,19 @@ ghost use Rattle.text_spec.specs.Scanning.{Scan, Scans, Answers, one, any_octets
 ghost use Rattle.dns_text.specs.Parts.{place_after};
 ghost use Rattle.text_spec.specs.Rows.{number_below, number_by, name, rest_octets, rest_base64, rest_base16};
 
-use crate::encodings::{decode_base16, decode_base64};
 use crate::names::read_name;
 use registry::{IanaNumber, Integer};
 use std::alloc::Global;
 use std::str;
-use text_spec::{ScanError, Symbol};
+use text_spec::{ScanError, Symbol, decode_base16, decode_base64};
 use wire_base::{Name, Octets};
 
-/// Takes the tokens of an entry one by one.
+/// Takes the tokens of an entry one by one, and reads them as octets, numbers, names and encoded octets.
 ///
-/// A scanner says by `scan` what the entry's tokens are and how many of them are taken, and owes the five calls without
-/// a body here. All others come with the trait. A call that scans takes the next token, or all that are left; where it
-/// is refused, the scanner stays as it was. `EndOfEntry` comes exactly where a token is asked for and none is left, and
-/// `NoMemory` only when allocation fails.
+/// A scanner says by `scan` what the entry's tokens are and how many of them are taken, and defines the five calls that
+/// have no body here. All others come with the trait. A call that scans takes the next token, or all that are left;
+/// where it fails, the scanner is unchanged. `EndOfEntry` comes exactly where a token is asked for and none is left,
+/// and `NoMemory` only when allocation fails.
 pub trait Scanner {
     /// The entry's tokens, and how many of them are taken.
     ghost scan: { Self → Scan };
@@ -33,25 +32,26 @@ pub trait Scanner {
         ensures taken { result ≡ (scan self.now).taken }
         ensures within { result ≤ length (scan self.now).tokens };
 
-    /// Goes back to where so many tokens were taken. It takes no memory.
+    /// Goes back to where so many tokens were taken. It allocates nothing.
     fn go_back(&mut self, taken: usize)
         requires { taken ≤ (scan self.old).taken }
         ensures { scan self.new ≡ record (scan self.old) { taken = taken } };
 
     /// The next token's symbols.
+    ///
+    /// `EndOfEntry`: no token is left. `NoMemory`: an allocation failed. The scanner is then unchanged.
     fn scan_symbols(&mut self, alloc: Global) -> Result<Vec<Symbol>, ScanError>
         ensures { Scans (λ symbols. symbols.items) (one Ok)
             (scan self.old) (scan self.new) result };
 
     /// Takes the next token exactly where it is the one escaped symbol `#`, and says whether it is (RFC 3597, section
-    /// 5). It takes no memory.
+    /// 5). It allocates nothing.
     fn scan_opt_unknown_marker(&mut self) -> bool
         ensures marked { result ≡ is_marked (scan self.old).tokens (scan self.old).taken }
         ensures taken { scan self.new ≡ record (scan self.old)
             { taken = if result then (scan self.old).taken + 1 else (scan self.old).taken } };
 
-    /// The outcome of a scan that began where so many tokens were taken. Where it is refused, the scanner goes back
-    /// there.
+    /// The outcome of a scan that began where so many tokens were taken. Where it failed, the scanner goes back there.
     fn rewind_unless_ok<T>(
         &mut self,
         place: usize,
@@ -68,8 +68,8 @@ pub trait Scanner {
         outcome
     }
 
-    /// The outcome of a scan of several tokens that began where so many tokens were taken. Where memory was wanting,
-    /// the scanner goes back there; any other refusal stands where it stood.
+    /// The outcome of a scan of several tokens that began where so many tokens were taken. Where an allocation failed,
+    /// the scanner goes back there; after any other error it stays where it is.
     fn rewind_on_no_memory<T>(
         &mut self,
         place: usize,
@@ -88,7 +88,7 @@ pub trait Scanner {
 
     /// Tests that no token is left.
     ///
-    /// `TrailingTokens`: exactly where one is left. It takes no memory.
+    /// `TrailingTokens`: exactly where one is left. It allocates nothing.
     fn check_end(&self) -> Result<(), ScanError>
         ensures ok { OnOk result ((scan self.now).taken ≡ length (scan self.now).tokens) }
         ensures left { OnErr result ((scan self.now).taken < length (scan self.now).tokens) }
@@ -104,7 +104,7 @@ pub trait Scanner {
 
     /// The next token's octets, escaped or not.
     ///
-    /// `EndOfEntry`: no token is left. `NoMemory`: the memory for the octets isn't there. The scanner then stays.
+    /// `EndOfEntry`: no token is left. `NoMemory`: an allocation failed. The scanner is then unchanged.
     fn scan_octets(&mut self, alloc: Global) -> Result<Octets, ScanError>
         ensures { Scans (λ octets. octets) (one any_octets)
             (scan self.old) (scan self.new) result }
@@ -117,8 +117,8 @@ pub trait Scanner {
 
     /// The number of at most 255 that the next token spells: an optional `+`, then decimal digits.
     ///
-    /// `EndOfEntry`: no token is left. `BadNumber`: the token is another text. `NoMemory`: the memory for the token's
-    /// octets isn't there. The scanner then stays.
+    /// `EndOfEntry`: no token is left. `BadNumber`: the token is another text. `NoMemory`: an allocation failed. The
+    /// scanner is then unchanged.
     fn scan_u8(&mut self, alloc: Global) -> Result<u8, ScanError>
         ensures { Scans (λ number. number) (number_below (2 ^ 8))
             (scan self.old) (scan self.new) result }
@@ -131,8 +131,8 @@ pub trait Scanner {
 
     /// The number of at most 65,535 that the next token spells: an optional `+`, then decimal digits.
     ///
-    /// `EndOfEntry`: no token is left. `BadNumber`: the token is another text. `NoMemory`: the memory for the token's
-    /// octets isn't there. The scanner then stays.
+    /// `EndOfEntry`: no token is left. `BadNumber`: the token is another text. `NoMemory`: an allocation failed. The
+    /// scanner is then unchanged.
     fn scan_u16(&mut self, alloc: Global) -> Result<u16, ScanError>
         ensures { Scans (λ number. number) (number_below (2 ^ 16))
             (scan self.old) (scan self.new) result }
@@ -145,8 +145,8 @@ pub trait Scanner {
 
     /// The number of at most 4,294,967,295 that the next token spells: an optional `+`, then decimal digits.
     ///
-    /// `EndOfEntry`: no token is left. `BadNumber`: the token is another text. `NoMemory`: the memory for the token's
-    /// octets isn't there. The scanner then stays.
+    /// `EndOfEntry`: no token is left. `BadNumber`: the token is another text. `NoMemory`: an allocation failed. The
+    /// scanner is then unchanged.
     fn scan_u32(&mut self, alloc: Global) -> Result<u32, ScanError>
         ensures { Scans (λ number. number) (number_below (2 ^ 32))
             (scan self.old) (scan self.new) result }
@@ -159,8 +159,8 @@ pub trait Scanner {
 
     /// The number of a registry that the next token spells.
     ///
-    /// `EndOfEntry`: no token is left. `BadNumber`: the token is another text. `NoMemory`: the memory for the token's
-    /// octets isn't there. The scanner then stays.
+    /// `EndOfEntry`: no token is left. `BadNumber`: the token is another text. `NoMemory`: an allocation failed. The
+    /// scanner is then unchanged.
     fn scan_number<T: IanaNumber>(&mut self, alloc: Global) -> Result<T, ScanError>
         ensures { Scans (λ x. T.number x) (number_by T.reads)
             (scan self.old) (scan self.new) result }
@@ -175,7 +175,7 @@ pub trait Scanner {
     ///
     /// `EndOfEntry`: no token is left. `BadName`: the token is a lone `@`, is empty, has an empty part other than
     /// behind a final dot, a part of more than 63 octets, or more than 254 octets in its parts and their lengths; a
-    /// lone dot is the root. `NoMemory`: the memory for the name isn't there. The scanner then stays.
+    /// lone dot is the root. `NoMemory`: an allocation failed. The scanner is then unchanged.
     fn scan_name(&mut self, alloc: Global) -> Result<Name, ScanError>
         ensures { Scans (λ name. name) name (scan self.old) (scan self.new) result }
     {
@@ -187,7 +187,7 @@ pub trait Scanner {
 
     /// The octets of all tokens left, joined; none where no token is left.
     ///
-    /// `NoMemory`: the memory for the octets isn't there. The scanner then stays.
+    /// `NoMemory`: an allocation failed. The scanner is then unchanged.
     fn scan_rest(&mut self, alloc: Global) -> Result<Octets, ScanError>
         ensures { Scans (λ octets. octets) rest_octets (scan self.old) (scan self.new) result }
     {
@@ -204,8 +204,8 @@ pub trait Scanner {
 
     /// The octets that all tokens left, joined, spell in base64 (RFC 4648, section 4); none where no token is left.
     ///
-    /// `BadBase64`: the tokens joined are no base64 text. `NoMemory`: the memory for the octets isn't there. The
-    /// scanner then stays.
+    /// `BadBase64`: the tokens joined are no base64 text. `NoMemory`: an allocation failed. The scanner is then
+    /// unchanged.
     fn scan_rest_base64(&mut self, alloc: Global) -> Result<Octets, ScanError>
         ensures { Scans (λ octets. octets) rest_base64 (scan self.old) (scan self.new) result }
     {
@@ -218,8 +218,8 @@ pub trait Scanner {
     /// The octets that all tokens left, joined, spell in base16 (RFC 4648, section 8), in either case; none where no
     /// token is left.
     ///
-    /// `BadBase16`: the tokens joined are no base16 text. `NoMemory`: the memory for the octets isn't there. The
-    /// scanner then stays.
+    /// `BadBase16`: the tokens joined are no base16 text. `NoMemory`: an allocation failed. The scanner is then
+    /// unchanged.
     fn scan_rest_base16(&mut self, alloc: Global) -> Result<Octets, ScanError>
         ensures { Scans (λ octets. octets) rest_base16 (scan self.old) (scan self.new) result }
     {

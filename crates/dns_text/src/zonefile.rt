@@ -21,7 +21,7 @@ pub trait ZonefileFmt {
 
     /// Lays out the value.
     ///
-    /// `NoMemory`: the memory for it isn't there. A front of the items may be laid out then.
+    /// `NoMemory`: an allocation failed; a prefix of the items may have been laid out.
     fn fmt_zone(&self, f: &mut Formatter) -> Result<(), NoMemory>
         ensures { Shows f.old (document self.now) f.new result };
 
@@ -31,7 +31,7 @@ pub trait ZonefileFmt {
 
 /// The text of a value in a layout of that kind.
 ///
-/// `NoMemory`: the memory for it isn't there.
+/// `NoMemory`: an allocation failed.
 pub fn display_zonefile<T: ZonefileFmt>(
     alloc: Global,
     value: &T,

@@ -25,30 +25,30 @@ takes_one old new n scans =
 -- ---- a key
 
 -- what is scanned, by what the octets of all tokens left are in base64
-abbrev scanned : Option (List ℕ) → ℕ → ℕ → Scanned (List ℕ)
-scanned found place end = elim found [ None ↦ refused BadBase64 place | Some key ↦ done key end ]
+abbrev key_outcome : Option (List ℕ) → ℕ → ℕ → Scanned (List ℕ)
+key_outcome found place end = elim found [ None ↦ refused BadBase64 place | Some key ↦ done key end ]
 
 ends : (found : Option (List ℕ)) (place end : ℕ) (key : List ℕ)
-    → (scanned found place end).outcome ≡ Ok key → (scanned found place end).place ≡ end
+    → (key_outcome found place end).outcome ≡ Ok key → (key_outcome found place end).place ≡ end
 ends None place end key is = absurd cc
 ends (Some other) place end key is = refl
 
 has_no : {P : Type 0} (found : Option (List ℕ)) (place end : ℕ) (fault : ScanError)
     → (fault ≡ MissingKey) ⊎ (fault ≡ UnknownGateway)
-    → (scanned found place end).outcome ≡ Err fault → P
+    → (key_outcome found place end).outcome ≡ Err fault → P
 has_no None place end fault (inl other) is = absurd cc
 has_no None place end fault (inr other) is = absurd cc
 has_no (Some key) place end fault other is = absurd cc
 
-abbrev read : Scan → Option (List ℕ)
-read old = base64_of (flat_map octets_of (drop old.taken old.tokens))
+abbrev key_in : Scan → Option (List ℕ)
+key_in old = base64_of (flat_map octets_of (drop old.taken old.tokens))
 
 -- a key takes all tokens
 pub takes_all : (old new : Scan) (key : List ℕ)
     → Scans {T = List ℕ} (λ octets. octets) rest_base64 old new (Ok key)
     → new.taken ≡ length old.tokens
 takes_all old new key scans =
-    scans.place ∙ ends (read old) old.taken (length old.tokens) key scans.answer
+    scans.place ∙ ends (key_in old) old.taken (length old.tokens) key scans.answer
 
 -- It is refused for its text alone.
 pub not_missing : {P : Type 0} (old new : Scan) (fault : ScanError) → fault ≡ MissingKey
@@ -56,11 +56,11 @@ pub not_missing : {P : Type 0} (old new : Scan) (fault : ScanError) → fault �
 not_missing old new fault is scans =
     let told = subst (λ f. Scans {T = List ℕ} (λ octets. octets) rest_base64 old new (Err f)) is
     scans in
-    has_no (read old) old.taken (length old.tokens) MissingKey (inl refl) told.answer
+    has_no (key_in old) old.taken (length old.tokens) MissingKey (inl refl) told.answer
 
 pub not_unknown : {P : Type 0} (old new : Scan) (fault : ScanError) → fault ≡ UnknownGateway
     → Scans {T = List ℕ} (λ octets. octets) rest_base64 old new (Err fault) → P
 not_unknown old new fault is scans =
     let told = subst (λ f. Scans {T = List ℕ} (λ octets. octets) rest_base64 old new (Err f)) is
     scans in
-    has_no (read old) old.taken (length old.tokens) UnknownGateway (inr refl) told.answer
+    has_no (key_in old) old.taken (length old.tokens) UnknownGateway (inr refl) told.answer

@@ -71,9 +71,13 @@ impl IpseckeyGateway {
     /// Reads the gateway of that type at the parser's place (RFC 4025, section 2.5), and copies it: no octets for
     /// type 0, 4 or 16 octets for 1 and 2, a name for 3.
     ///
-    /// `ShortInput`: an octet of it is missing. `Form`: the type is over 3, the name has that fault, as
-    /// [`ParsedName::parse`](wire_base::ParsedName::parse) tells it, or last, a pointer was followed to read it.
-    /// `NoMemory`: the gateway has no fault, and the memory for the copy isn't there. The parser then stays.
+    /// The first of these errors that applies is returned, and the parser is then unchanged.
+    ///
+    /// - `Form`: the type is over 3.
+    /// - `ShortInput`: an octet of an address or a name is missing.
+    /// - `Form`: the name has that fault, as [`ParsedName::parse`](wire_base::ParsedName::parse) says, or a pointer was
+    ///   followed to read it.
+    /// - `NoMemory`: the gateway has no fault, but allocation failed.
     pub fn parse(
         alloc: Global,
         parser: &mut Parser<'_>,
@@ -99,7 +103,7 @@ impl IpseckeyGateway {
         outcome
     }
 
-    /// The same. Where it is refused, the parser stands anywhere within the data.
+    /// The same, but on an error the parser stands anywhere within the data.
     fn copy_next(
         alloc: Global,
         parser: &mut Parser<'_>,
@@ -117,7 +121,7 @@ impl IpseckeyGateway {
 
     /// A copy.
     ///
-    /// `NoMemory`: the memory for it isn't there.
+    /// Fails only with `NoMemory`: allocation failed.
     pub fn try_clone(&self, alloc: Global) -> Result<IpseckeyGateway, NoMemory>
         ensures { IfOk result (λ copy. copy ≡ self.now) }
     {

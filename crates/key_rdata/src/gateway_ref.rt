@@ -5,7 +5,7 @@ ghost use Rattle.name_spec.specs.Names.{name_wire};
 ghost use Rattle.wire_base.specs.Faults.{Gives};
 ghost use Rattle.record_spec.specs.Ipseckeys.{NameGateway, gateway_wire};
 ghost use Rattle.record_spec.specs.IpseckeyWire.{gateway_read};
-ghost use Rattle.key_rdata.specs.GatewayView.{gateway_of, seen_gateway};
+ghost use Rattle.key_rdata.specs.GatewayView.{gateway_of, gateway_of_ref};
 
 use crate::gateway::IpseckeyGateway;
 use key_registry::IpseckeyGatewayType;
@@ -23,16 +23,16 @@ pub(crate) enum GatewayRef<'a> {
 }
 
 impl<'a> GatewayRef<'a> {
-    /// Reads the gateway of that type in place. Where it is refused, the parser stands anywhere within the data.
+    /// Reads the gateway of that type in place. On an error the parser stands anywhere within the data.
     pub(crate) fn read(
         parser: &mut Parser<'a>,
         gateway_type: IpseckeyGatewayType,
     ) -> Result<GatewayRef<'a>, ParseError>
         ensures answer { Gives
-            (λ found. record { value = seen_gateway found; next = parser.new.pos })
+            (λ found. record { value = gateway_of_ref found; next = parser.new.pos })
             result (gateway_read gateway_type parser.old) }
         ensures len { IfOk result (λ found. parser.old.pos
-            + length (gateway_wire (seen_gateway found)) ≡ parser.new.pos) }
+            + length (gateway_wire (gateway_of_ref found)) ≡ parser.new.pos) }
         ensures within { parser.new ≡ record parser.old { pos = parser.new.pos } }
     {
         match u8::from(gateway_type) {
@@ -46,9 +46,9 @@ impl<'a> GatewayRef<'a> {
 
     /// The same gateway by itself.
     ///
-    /// `NoMemory`: the memory for the copy isn't there.
+    /// Fails only with `NoMemory`: allocation failed.
     pub(crate) fn to_gateway(&self, alloc: Global) -> Result<IpseckeyGateway, NoMemory>
-        ensures { IfOk result (λ owned. gateway_of owned ≡ seen_gateway self.now) }
+        ensures { IfOk result (λ owned. gateway_of owned ≡ gateway_of_ref self.now) }
     {
         match self {
             GatewayRef::None => Ok(IpseckeyGateway::None),
@@ -59,7 +59,7 @@ impl<'a> GatewayRef<'a> {
     }
 }
 
-/// The uncompressed name at the parser's place. Where it is refused, the parser stands anywhere within the data.
+/// The uncompressed name at the parser's place. On an error the parser stands anywhere within the data.
 fn read_name<'a>(parser: &mut Parser<'a>) -> Result<ParsedName<'a>, ParseError>
     ensures answer { Gives
         (λ name. record { value = NameGateway name.labels; next = parser.new.pos })

@@ -18,9 +18,12 @@ impl IpseckeyGateway {
     /// The gateway of that type that the next token spells (RFC 4025, section 3.1): a dot for type 0, an address for
     /// 1 and 2, a name for 3.
     ///
-    /// `UnknownGateway`: the type is over 3, whatever tokens are left. `EndOfEntry`: no token is left.
-    /// `WrongGateway`, `BadAddress`, `BadName`: the token is no dot, no such address or no name. `NoMemory`: the
-    /// memory for the gateway isn't there. The scanner then stays.
+    /// The scanner is unchanged after each of these errors.
+    ///
+    /// - `UnknownGateway`: the type is over 3, whatever tokens are left.
+    /// - `EndOfEntry`: no token is left.
+    /// - `WrongGateway`, `BadAddress`, `BadName`: the token is no dot, no such address or no name.
+    /// - `NoMemory`: allocation failed.
     pub fn scan<S: Scanner>(
         alloc: Global,
         scanner: &mut S,

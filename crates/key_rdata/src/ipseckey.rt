@@ -10,6 +10,7 @@ ghost use Rattle.record_spec.specs.Ipseckeys.{gateway_type, lacks_key, ipseckey_
 ghost use Rattle.record_spec.specs.IpseckeyWire.{ipseckey_read};
 ghost use Rattle.key_rdata.specs.GatewayView.{gateway_of};
 ghost use Rattle.key_rdata.specs.IpseckeyView.{ipseckey_of};
+ghost use Rattle.digest_rdata.specs.Making.{MakesData};
 
 use crate::gateway::IpseckeyGateway;
 use crate::ipseckey_ref::IpseckeyRef;
@@ -22,8 +23,25 @@ use wire_base::{
     Parser, RecordData, Rtype,
 };
 
-/// The data of an IPSECKEY record: a key for IPsec, and the gateway to which a tunnel may be created (RFC 4025,
-/// section 2), at most 65,535 octets. Contracts see the fields, and the type of the gateway with it.
+/// The data of an IPSECKEY record (RFC 4025, section 2): a key for IPsec, and the gateway to which a tunnel may be
+/// created, at most 65,535 octets in all. Its type number goes with the gateway: [`IpseckeyGateway`] has a variant for
+/// each, so the two agree. Contracts see the fields.
+///
+/// To read it where it stands in a message, and its gateway:
+///
+/// ```
+/// use key_rdata::{Ipseckey, IpseckeyGateway};
+/// use std::alloc::Global;
+/// use wire_base::{Ipv4Addr, ParseError, Parser};
+///
+/// fn ipv4_gateway(alloc: Global, parser: &mut Parser<'_>) -> Result<Option<Ipv4Addr>, ParseError> {
+///     let data = Ipseckey::parse(alloc, parser)?;
+///     match data.gateway() {
+///         IpseckeyGateway::Ipv4(address) => Ok(Some(address.addr())),
+///         _ => Ok(None),
+///     }
+/// }
+/// ```
 ///
 /// Data is compared by its fields in wire order: the numbers as such, an address and the key octet by octet, the name
 /// of a gateway in the order of names, ASCII case ignored.
@@ -76,12 +94,8 @@ impl Ipseckey {
         gateway: IpseckeyGateway,
         key: Octets,
     ) -> Result<Ipseckey, LongRecordData>
-        ensures made { IfOk result
-            (λ made. made ≡ ipseckey_of precedence algorithm gateway key) }
-        ensures ok { OnOk result
-            (ipseckey_len (ipseckey_of precedence algorithm gateway key) ≤ 65535) }
-        ensures long { OnErr result
-            (65535 < ipseckey_len (ipseckey_of precedence algorithm gateway key)) }
+        ensures { MakesData (ipseckey_of precedence algorithm gateway key)
+            (ipseckey_len (ipseckey_of precedence algorithm gateway key)) result }
     {
         LongRecordData::check_append_len(3 + usize::from(gateway.rdlen()), key.len())?;
         Ok(Ipseckey::new(precedence, algorithm, gateway, key))
@@ -89,11 +103,14 @@ impl Ipseckey {
 
     /// Reads the data in all octets before the end of the data, and copies it (RFC 4025, section 2).
     ///
-    /// The first fault along the data decides. `ShortInput`: the precedence, the gateway's type or the algorithm is
-    /// missing. Then the faults of the gateway, as [`IpseckeyGateway::parse`] tells them. `ShortInput`: the key has
-    /// no octets, and the algorithm isn't `NONE`. `Form`: the data has more than 65,535 octets. All this is tested
-    /// before memory is taken. `NoMemory`: the data has no fault, and the memory for the copy isn't there. The parser
-    /// then stays.
+    /// The first of these errors that applies is returned, and the parser is then unchanged. All but the last are found
+    /// before memory is taken.
+    ///
+    /// - `ShortInput`: the precedence, the gateway's type or the algorithm is missing.
+    /// - `ShortInput`, `Form`: the gateway has a fault, as [`IpseckeyGateway::parse`] says.
+    /// - `ShortInput`: the key has no octets, and the algorithm isn't `NONE`.
+    /// - `Form`: the data has more than 65,535 octets.
+    /// - `NoMemory`: the data has no fault, but allocation failed.
     pub fn parse(alloc: Global, parser: &mut Parser<'_>) -> Result<Ipseckey, ParseError>
         ensures answer { GivesCopy (λ found. record { value = found; next = parser.old.end })
             result (ipseckey_read parser.old) }
@@ -147,7 +164,7 @@ impl Ipseckey {
 
     /// A copy.
     ///
-    /// `NoMemory`: the memory for it isn't there.
+    /// Fails only with `NoMemory`: allocation failed.
     pub fn try_clone(&self, alloc: Global) -> Result<Ipseckey, NoMemory>
         ensures { IfOk result (λ copy. copy ≡ self.now) }
     {

@@ -4,7 +4,7 @@ ghost use Rattle.std.specs.Prelude.{◌≡◌, ◌≤◌, IfOk};
 ghost use Rattle.wire_base.specs.Faults.{Gives};
 ghost use Rattle.record_spec.specs.Ipseckeys.{ipseckey_len};
 ghost use Rattle.record_spec.specs.IpseckeyWire.{ipseckey_read};
-ghost use Rattle.key_rdata.specs.IpseckeyView.{seen_ipseckey};
+ghost use Rattle.key_rdata.specs.IpseckeyView.{ipseckey_of_ref};
 
 use crate::gateway_ref::GatewayRef;
 use crate::ipseckey::{Ipseckey, lacks_key};
@@ -22,13 +22,13 @@ pub(crate) struct IpseckeyRef<'a> {
 }
 
 impl<'a> IpseckeyRef<'a> {
-    /// Reads the data in place, in all octets before the end of the data. Where it is refused, the parser stands
-    /// anywhere within the data.
+    /// Reads the data in place, in all octets before the end of the data. On an error the parser stands anywhere
+    /// within the data.
     fn read(parser: &mut Parser<'a>) -> Result<IpseckeyRef<'a>, ParseError>
         ensures answer { Gives
-            (λ found. record { value = seen_ipseckey found; next = parser.old.end })
+            (λ found. record { value = ipseckey_of_ref found; next = parser.old.end })
             result (ipseckey_read parser.old) }
-        ensures fits { IfOk result (λ found. ipseckey_len (seen_ipseckey found) ≤ 65535) }
+        ensures fits { IfOk result (λ found. ipseckey_len (ipseckey_of_ref found) ≤ 65535) }
         ensures within { parser.new ≡ record parser.old { pos = parser.new.pos } }
     {
         let remaining = parser.remaining();
@@ -49,12 +49,12 @@ impl<'a> IpseckeyRef<'a> {
         })
     }
 
-    /// The data in all octets before the end of the data. The parser stays.
+    /// The data in all octets before the end of the data. The parser is unchanged.
     pub(crate) fn peek(parser: &mut Parser<'a>) -> Result<IpseckeyRef<'a>, ParseError>
         ensures answer { Gives
-            (λ found. record { value = seen_ipseckey found; next = parser.old.end })
+            (λ found. record { value = ipseckey_of_ref found; next = parser.old.end })
             result (ipseckey_read parser.old) }
-        ensures fits { IfOk result (λ found. ipseckey_len (seen_ipseckey found) ≤ 65535) }
+        ensures fits { IfOk result (λ found. ipseckey_len (ipseckey_of_ref found) ≤ 65535) }
         ensures stays { parser.new ≡ parser.old }
     {
         let start = parser.pos();
@@ -65,10 +65,10 @@ impl<'a> IpseckeyRef<'a> {
 
     /// The same data by itself.
     ///
-    /// `NoMemory`: the memory for the copy isn't there.
+    /// Fails only with `NoMemory`: allocation failed.
     pub(crate) fn to_owned_data(&self, alloc: Global) -> Result<Ipseckey, NoMemory>
-        requires { ipseckey_len (seen_ipseckey self.now) ≤ 65535 }
-        ensures { IfOk result (λ owned. owned ≡ seen_ipseckey self.now) }
+        requires { ipseckey_len (ipseckey_of_ref self.now) ≤ 65535 }
+        ensures { IfOk result (λ owned. owned ≡ ipseckey_of_ref self.now) }
     {
         let gateway = self.gateway.to_gateway(alloc)?;
         let key = Octets::from_slice(alloc, self.key)?;

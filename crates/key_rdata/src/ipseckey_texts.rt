@@ -25,18 +25,22 @@ impl Ipseckey {
     /// of at most 255, the gateway as [`IpseckeyGateway::scan`] reads it, and the key in base64, which all tokens
     /// left spell together.
     ///
-    /// The first fault decides, token by token. `EndOfEntry`: no token is left for a number or the gateway.
-    /// `BadNumber`: a token is no such number. `UnknownGateway`, `WrongGateway`, `BadAddress`, `BadName`: those of
-    /// the gateway. `BadBase64`: the tokens left are no base64 text. The scanner then stands before the token, or the
-    /// first of them. `MissingKey`: the key has no octets, and the algorithm isn't `NONE`. `LongRecord`: the data
-    /// would have more than 65,535 octets. The scanner then stands behind all tokens. `NoMemory`: the memory for the
-    /// data isn't there. The scanner then stays.
+    /// The first fault decides, token by token, and each leaves the scanner at a place of its own:
+    ///
+    /// - `EndOfEntry`: no token is left for a number or the gateway. The scanner stands at the end of the entry.
+    /// - `BadNumber`: a token is no such number. The scanner stands before that token.
+    /// - `UnknownGateway`: the gateway's type is over 3. The scanner stands behind the three numbers.
+    /// - `WrongGateway`, `BadAddress`, `BadName`: the token is no gateway of that type. The scanner stands before it.
+    /// - `BadBase64`: the tokens left are no base64 text. The scanner stands before the first of them.
+    /// - `MissingKey`: the key has no octets, and the algorithm isn't `NONE`. The scanner stands at the end of the entry.
+    /// - `LongRecord`: the data would have more than 65,535 octets. The scanner stands at the end of the entry.
+    /// - `NoMemory`: allocation failed. The scanner is where it was before the call.
     pub fn scan<S: Scanner>(alloc: Global, scanner: &mut S) -> Result<Ipseckey, ScanError>
         ensures scans { Scans (λ found. found) scan_ipseckey
             (S.scan scanner.old) (S.scan scanner.new) result }
 
-        // What is scanned has the key that it needs. A missing key is told behind all tokens, an unknown type of gateway
-        // behind the three numbers.
+        // What is scanned has the key that it needs. The error for a missing key comes behind all tokens, that for an
+        // unknown type of gateway behind the three numbers.
         ensures has_key { IfOk result (λ found. lacks_key found.algorithm found.key ≡ false) }
         ensures missing { IsErrOf result ScanError.MissingKey
             → (S.scan scanner.new).taken ≡ length (S.scan scanner.old).tokens }
@@ -49,7 +53,7 @@ impl Ipseckey {
     }
 }
 
-/// The data. Where memory is wanting, tokens may be taken.
+/// The data. Where allocation fails, tokens may have been taken.
 fn scan_fields<S: Scanner>(alloc: Global, scanner: &mut S) -> Result<Ipseckey, ScanError>
     ensures scans { ScansPart (λ found. found) scan_ipseckey
         (S.scan scanner.old) (S.scan scanner.new) result }
@@ -65,7 +69,7 @@ fn scan_fields<S: Scanner>(alloc: Global, scanner: &mut S) -> Result<Ipseckey, S
     scan_behind_numbers(alloc, scanner, precedence, gateway_type, algorithm)
 }
 
-/// The gateway and the key, and with the numbers the data. Where memory is wanting, tokens may be taken.
+/// The gateway and the key, and with the numbers the data. Where allocation fails, tokens may have been taken.
 fn scan_behind_numbers<S: Scanner>(
     alloc: Global,
     scanner: &mut S,
@@ -124,7 +128,7 @@ impl ZonefileFmt for Ipseckey {
 }
 
 impl Ipseckey {
-    /// Lays out the fields. Where memory is wanting, a prefix of them may be laid out.
+    /// Lays out the fields. Where allocation fails, a prefix of them may be laid out.
     fn lay_out_fields(&self, f: &mut Formatter) -> Result<(), NoMemory>
         ensures shows { Shows f.old (fields_items self.now) f.new result }
         ensures blocks { OnOk result (f.new.layout.blocks ≡ f.old.layout.blocks) }

@@ -11,6 +11,7 @@ mod ipseckey;
 mod ipseckey_comparisons;
 mod ipseckey_ref;
 mod ipseckey_texts;
+mod octets_order;
 
 pub use digest_rdata::{Cdnskey, CdnskeyFields, Openpgpkey, OpenpgpkeyFields};
 pub use gateway::IpseckeyGateway;

@@ -123,7 +123,7 @@ impl<R> fmt::Display for OctetNumber<R> {
     }
 }
 
-/// A number text of at most 255: an optional `+`, then decimal digits. Refused by std's error exactly for other texts.
+/// A number text of at most 255: an optional `+`, then decimal digits. Fails with std's error exactly for other texts.
 impl<R> FromStr for OctetNumber<R> {
     type Err = ParseIntError;
 

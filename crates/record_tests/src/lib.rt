@@ -1,4 +1,5 @@
-//! Tests of the data of the other records and of records of any type: worked inputs, limits, orders, layouts and copies.
+//! Tests of the data of the other records and of records of any type: worked inputs, limits, orders, layouts and
+//! copies.
 #![tactic(auto)]
 
 #[cfg(test)]

@@ -1,6 +1,6 @@
 //! Data of any type, its copies, and its octets.
 
-use crate::records::is_kept;
+use crate::record_copies::is_kept;
 use rdata_union::{AllRecordData, ZoneRecordData};
 use std::alloc::Global;
 use wire_base::{ComposeRecordData, NoMemory, ParseError, ParseRecordData, Parser, Rtype};

@@ -16,7 +16,7 @@ impl LongSvcParam {
     /// The most octets of a value (RFC 9460, section 2.2).
     pub const MAX_LEN: usize = 65535;
 
-    /// Tests the length of a value in octets. Refused exactly over 65,535.
+    /// Tests the length of a value in octets. Fails exactly over 65,535.
     pub fn check_len(len: usize) -> Result<(), LongSvcParam>
         ensures ok { OnOk result (len ≤ 65535) }
         ensures long { OnErr result (65535 < len) }

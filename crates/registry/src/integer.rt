@@ -40,13 +40,13 @@ pub trait Integer: Copy {
     fn from_text(text: &[u8]) -> Option<Self>
         ensures { option_map value result ≡ spelled_number (256 ^ LEN) text.now };
 
-    /// The integer in the next octets. Refused exactly where fewer remain; the parser then stays.
+    /// The integer in the next octets. Fails exactly where fewer remain; the parser is then unchanged.
     fn parse(parser: &mut Parser<'_>) -> Result<Self, ShortInput>
         ensures number { IfOk result (λ integer. value integer
             ≡ number_at parser.old.message parser.old.pos) }
         ensures takes { TakesOctets parser.old parser.new LEN result };
 
-    /// Appends the octets. Fails only with `NoMemory`; the target then stays.
+    /// Appends the octets. Fails only with `NoMemory`; the target is then unchanged.
     fn compose(self, target: &mut Vec<u8>) -> Result<(), NoMemory>
         ensures { AppendsOctets target.old.items target.new.items (octets (value self)) result };
 

@@ -120,8 +120,8 @@ pub trait IanaNumber: Copy + Display {
         find_mnemonic(Self::rows(), self.to_u16())
     }
 
-    /// The value of the number in the next octets. Refused as `ShortInput` exactly where fewer remain; the parser then
-    /// stays.
+    /// The value of the number in the next octets. Fails with `ShortInput` exactly where fewer remain; the parser is
+    /// then unchanged.
     fn parse(parser: &mut Parser<'_>) -> Result<Self, ParseError>
         ensures number { IfOk result (λ x. number x
             ≡ Self.Int.number_at parser.old.message parser.old.pos) }
@@ -131,7 +131,7 @@ pub trait IanaNumber: Copy + Display {
         Ok(Self::from_int(Self::Int::parse(parser)?))
     }
 
-    /// Appends the number's octets. Fails only with `NoMemory`; the target then stays.
+    /// Appends the number's octets. Fails only with `NoMemory`; the target is then unchanged.
     fn compose(&self, target: &mut Vec<u8>) -> Result<(), NoMemory>
         ensures { AppendsOctets target.old.items target.new.items
             (Self.Int.octets (number self.now)) result }

@@ -192,7 +192,7 @@ impl fmt::Display for SvcParamKey {
     }
 }
 
-/// A mnemonic in any case, else `key` in any case and a number text of at most 65,535: as `from_bytes`. Refused exactly
+/// A mnemonic in any case, else `key` in any case and a number text of at most 65,535: as `from_bytes`. Fails exactly
 /// for other texts.
 impl FromStr for SvcParamKey {
     type Err = FromStrError;

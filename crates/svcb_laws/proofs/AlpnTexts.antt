@@ -61,8 +61,8 @@ protocol_item-escaped : (protocol : List ℕ) (rest : Option (List ℕ)) → IsP
     → protocol_item (escaped_item protocol ++ behind_item rest)
     ≡ Ok (record { item = protocol; rest = rest })
 protocol_item-escaped protocol rest is =
-    let some : 0 < length protocol = is.0 in
-    let few : length protocol < 256 = is.1 in
+    let some : 0 < length protocol = is.not_empty in
+    let few : length protocol < 256 = omega (arith, is.fits) in
     let full : (length protocol == 0) ≡ false = grind (arith, nat_tests) in
     let short : nat_lt 255 (length protocol) ≡ false = grind (arith, nat_tests) in
     let read : ItemRead = record { item = protocol; rest = rest } in
@@ -159,6 +159,6 @@ alpn_again protocol protocols are octets few =
     (ap (λ r. r >>= protocols_of >>= λ items. short_value (Alpn items))
     (some_text_again list
     (some-join (escaped_item protocol) (map escaped_item protocols)
-    (some-escaped protocol are.0.0)))
+    (some-escaped protocol are.0.not_empty)))
     ∙ ap (λ r. r >>= λ items. short_value (Alpn items)) (protocols_of-join protocol protocols are)
     ∙ short_again (Alpn (protocol ∷ protocols)) few)

@@ -5,6 +5,7 @@ use Rattle.std.specs.List.{join_with_byte}
 use Rattle.std.proofs.lemmas.Bool.Decides.{nat_tests}
 use Rattle.svcb_spec.specs.Values.{Each}
 use Rattle.svcb_spec.specs.ListTexts.{onto_piece, comma_pieces, comma_items}
+use Rattle.svcb_spec.proofs.CommaPieces.{some_pieces}
 use Rattle.svcb_laws.specs.ParamTextLaws.{HasNoComma, CommaItemsExact}
 
 -- ---- items that are joined
@@ -56,19 +57,6 @@ onto_piece-no_comma : (c : ℕ) (pieces : List (List ℕ)) → c ≢ 44 → Each
     → Each HasNoComma (onto_piece c pieces)
 onto_piece-no_comma c [] other none = ((other, tt), tt)
 onto_piece-no_comma c (piece ∷ pieces) other none = ((other, none.0), none.1)
-
-onto_piece-some : (c : ℕ) (pieces : List (List ℕ)) → 0 < length (onto_piece c pieces)
-onto_piece-some c [] = omega arith
-onto_piece-some c (piece ∷ pieces) = omega arith
-
-some_pieces : (text : List ℕ) → 0 < length (comma_pieces text)
-some_pieces [] = omega arith
-some_pieces (c ∷ text) =
-    elim (c == 44) as
-    (λ b. 0 < length (cond b ([] ∷ comma_pieces text) (onto_piece c (comma_pieces text)))) [
-      | true ↦ omega arith
-      | false ↦ onto_piece-some c (comma_pieces text)
-    ]
 
 behind_comma : (pieces : List (List ℕ)) → 0 < length pieces
     → join_with_byte 44 ([] ∷ pieces) ≡ 44 ∷ join_with_byte 44 pieces

@@ -6,7 +6,7 @@ use Rattle.text_spec.specs.declared.errors.ScanError.{ScanError}
 use Rattle.text_spec.specs.declared.errors.ScanError.TheVariants.{BadListEscape, EmptyItem, LongItem}
 use Rattle.svcb_spec.specs.ListTexts.{◌>>=◌, is_escaped_in_item, escaped_item, ItemRead, onto_item, read_item, some_octets}
 use Rattle.svcb_spec.specs.ValueTexts.{short_item, protocol_item, protocols_step, protocols_within, protocols_of}
-use Rattle.svcb_laws.specs.ParamTextLaws.{IsProtocol, IsProtocolList, AlpnExact, ProtocolsByStep}
+use Rattle.svcb_laws.specs.ParamTextLaws.{IsProtocol, IsProtocolList, AlpnExact}
 use Rattle.svcb_laws.proofs.Answers.{before_ok}
 use Rattle.svcb_laws.proofs.PlainLists.{some-join}
 use Rattle.svcb_laws.proofs.AlpnTexts.{behind_item, protocols_within-step, protocols_of-join, some-escaped}
@@ -127,7 +127,10 @@ protocol_item-exact text read is =
     let full = some_octets-ok some.0 short.0 some.2 in
     let whole : text ≡ item_text some.0 =
     subst (λ (r : Result ItemRead ScanError). IsTextRead text r) some.1 (read_item-text text) in (
-      (subst (λ (r : ItemRead). 0 < length r.item) last.0 full.1, last.1),
+      record {
+        not_empty = subst (λ (r : ItemRead). 0 < length r.item) last.0 full.1;
+        fits = omega (arith, last.1);
+      },
       whole
           ∙ ap item_text (full.0 ∙ last.0),
     )
@@ -198,42 +201,4 @@ some_protocols text [] are = absurd (omega (arith, are.0))
 some_protocols text (protocol ∷ protocols) are =
     subst (λ (t : List ℕ). 0 < length t) (sym are.2)
     (some-join (escaped_item protocol) (map escaped_item protocols)
-    (some-escaped protocol are.1.0.0))
-
--- ---- by step
-
--- a step is the same by two readings that agree on shorter texts
-module _ (f g : List ℕ → Result (List (List ℕ)) ScanError) (text : List ℕ)
-    (same : (rest : List ℕ) → length rest < length text → f rest ≡ g rest) where
-  same_rest : (item : List ℕ) (rest : Option (List ℕ))
-      → text ≡ escaped_item item ++ behind_item rest
-      → protocols_step f (record { item = item; rest = rest })
-      ≡ protocols_step g (record { item = item; rest = rest })
-  same_rest item None whole = refl
-  same_rest item (Some rest) whole =
-      ap (λ (r : Result (List (List ℕ)) ScanError). r >>= λ items. Ok (item ∷ items))
-      (same rest (shorter_rest text (escaped_item item) rest whole))
-
-  same_step : (first : Result ItemRead ScanError) → protocol_item text ≡ first
-      → (first >>= protocols_step f) ≡ (first >>= protocols_step g)
-  same_step (Err fault) is = refl
-  same_step (Ok read) is = same_rest read.item read.rest (protocol_item-exact text read is).1
-
-within_enough : (count more : ℕ) (text : List ℕ) → length text < count → length text < more
-    → protocols_within count text ≡ protocols_within more text
-within_enough zero more text enough also = absurd (omega arith)
-within_enough (suc count) zero text enough also = absurd (omega arith)
-within_enough (suc count) (suc more) text enough also =
-    protocols_within-step count text
-    ∙ same_step (protocols_within count) (protocols_within more) text
-    (λ rest less. within_enough count more rest (omega arith) (omega arith))
-    (protocol_item text) refl
-    ∙ sym (protocols_within-step more text)
-
--- the count of protocols that `protocols_of` allows is of no account
-pub protocols_of-step : ProtocolsByStep
-protocols_of-step text =
-    protocols_within-step (length text) text
-    ∙ same_step (protocols_within (length text)) protocols_of text
-    (λ rest less. within_enough (length text) (suc (length rest)) rest less (omega arith))
-    (protocol_item text) refl
+    (some-escaped protocol are.1.0.not_empty))

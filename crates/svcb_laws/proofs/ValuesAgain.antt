@@ -25,7 +25,8 @@ are_protocols : (protocols : List (List ℕ)) → Each (λ protocol. length prot
 are_protocols [] short some = tt
 are_protocols (protocol ∷ protocols) short some =
     let both = and_parts (has_some protocol) (list_all has_some protocols) some in
-    ((some_of protocol both.0, short.0), are_protocols protocols short.1 both.1)
+    (record { not_empty = some_of protocol both.0; fits = omega (arith, short.0) },
+    are_protocols protocols short.1 both.1)
 
 -- a value that has a text of its own is read back from it
 pub typed_again : TypedReadBack

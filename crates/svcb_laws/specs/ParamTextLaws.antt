@@ -5,6 +5,7 @@ use Rattle.name_spec.specs.Addresses.{ipv4_of, ipv6_of}
 use Rattle.name_spec.specs.AddressLaws.{AreOctets}
 use Rattle.registry.specs.Keys.{parameter_keys}
 use Rattle.registry.specs.Texts.{spelled_key, spelled_number}
+use Rattle.svcb_spec.specs.BuildingValues.{IsProtocolLength}
 use Rattle.svcb_spec.specs.Params.{Pair, Pairs, IsMap}
 use Rattle.svcb_spec.specs.Values.{Value, Mandatory, Alpn, Ipv4Hint, Ipv6Hint, TlsSupportedGroups, Unknown, key_of, encode, Each, IsValue}
 use Rattle.text_spec.specs.declared.lexeme.Symbol.{Symbol}
@@ -133,9 +134,9 @@ GroupsExact = (text : List ℕ) (value : Value) → (value_of_text 9 text ≡ Ok
 
 -- ---- protocols, whole
 
--- a protocol's octets: one to 255
+-- octets that are a protocol
 abbrev pub IsProtocol : List ℕ → Type 0
-IsProtocol protocol = (0 < length protocol) × (length protocol < 256)
+IsProtocol protocol = IsProtocolLength (length protocol)
 
 -- these protocols, at least one, are the text, each in its escaped form, with commas between them
 abbrev pub IsProtocolList : List ℕ → List (List ℕ) → Type 0

@@ -1,17 +1,13 @@
 -- What a push onto a list of protocols answers.
 use Rattle.std.specs.Prelude.{◌≡◌, ℕ, ◌+◌, ◌<◌, ◌≤◌, true, List, length, Result, Ok, Err}
+use Rattle.svcb_spec.specs.BuildingValues.{IsProtocolLength}
 use Rattle.svcb_spec.specs.Values.{protocols_wire}
 use Rattle.svcb_spec.specs.ReadingValues.{protocols, are_whole}
 use Rattle.svcb_list.specs.declared.errors.BuildAlpnError.{BuildAlpnError}
 use Rattle.svcb_list.specs.declared.errors.BuildAlpnError.TheVariants.{InvalidProtocol, LongSvcParam, ShortBuf, NoMemory}
 
--- a protocol has 1 to 255 octets (RFC 7301, section 3.1)
-pub record IsProtocolLength (len : ℕ) : Type 0 where
-  pub not_empty : 0 < len
-  pub fits : len ≤ 255
-
 -- A push of a protocol of `len` octets onto a value of `old` octets: done where the protocol is one
--- and the value stays within 65,535 octets, unless memory is wanting. There is no other error.
+-- and the value stays within 65,535 octets, unless allocation fails. There is no other error.
 abbrev pub IsPushed : {X : Type 0} → Result X BuildAlpnError → ℕ → ℕ → Type 0
 IsPushed (Ok done) old len = IsProtocolLength len × (old + 1 + len ≤ 65535)
 IsPushed (Err InvalidProtocol) old len = IsProtocolLength len → ⊥

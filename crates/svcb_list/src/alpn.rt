@@ -16,17 +16,27 @@ use registry::{LongSvcParam, SvcParamKey};
 use std::fmt;
 use wire_base::ParseError;
 
-/// The type of `alpn`, whose items are names of protocols of at most 255 octets, each behind its length.
+/// The type of `alpn` (RFC 9460, section 7.1), whose items are names of protocols of at most 255 octets. In the value's
+/// octets each stands behind its length, which is one octet.
 #[derive(Debug)]
 pub struct AlpnType;
 
-/// The names of the protocols that a server speaks. A value that is read may hold empty names.
+/// The value of `alpn`: the names of the protocols that a server speaks (ALPN, RFC 7301).
+///
+/// [`AlpnBuilder`](crate::AlpnBuilder) makes a value of names, and refuses an empty one. A value that is read may have
+/// empty names.
+///
+/// ```
+/// let alpn = Alpn::parse(alloc, &mut Parser::from_ref(b"\x02h2\x08http/1.1"))?;
+/// let mut names = alpn.iter();
+/// // names.next() is `h2`, then `http/1.1`; the value is printed as `alpn=h2,http/1.1`
+/// ```
 pub type Alpn = ItemList<AlpnType>;
 
-/// A view of protocols.
+/// A view of the value of `alpn`, which borrows the octets.
 pub type AlpnRef<'a> = ItemListRef<'a, AlpnType>;
 
-/// The protocols in order. Each stays in the value's octets.
+/// The names in order. Each is borrowed from the value's octets.
 pub type AlpnIter<'a> = ItemIter<'a, AlpnType>;
 
 /// The text of a view of the value.
@@ -67,7 +77,7 @@ impl ListType for AlpnType {
     }
 }
 
-// Whether octets are whole protocols, the last of which ends where the octets end.
+/// Whether octets are whole protocols, the last of which ends where the octets end.
 #[tactic(auto, using(crate::proofs::ProtocolLemmas::whole_rules))]
 fn are_protocols(octets: &[u8]) -> bool
     ensures { result ≡ are_whole octets.now }

@@ -14,7 +14,17 @@ use std::alloc::Global;
 use std::marker::Model;
 use wire_base::{NoMemory, Octets};
 
-/// A list of protocols to which more are added. Contracts see the protocols.
+/// Builds the value of `alpn` of the names of protocols, one after another.
+///
+/// A name is copied behind its length into the builder's octets, so `freeze` copies nothing. After a push that is
+/// refused the builder is as before. Contracts see the names.
+///
+/// ```
+/// let mut builder = AlpnBuilder::empty(alloc);
+/// builder.push(b"h2")?;
+/// builder.push(b"http/1.1")?;
+/// let alpn = builder.freeze(); // printed as `alpn=h2,http/1.1`
+/// ```
 #[derive(Debug, Drop)]
 pub struct AlpnBuilder {
     octets: Vec<u8>,
@@ -33,6 +43,9 @@ impl Model for AlpnBuilder {
 }
 
 impl AlpnBuilder {
+    /// The most octets of the name of a protocol (RFC 7301, section 3.1).
+    pub const MAX_PROTOCOL_LEN: usize = 255;
+
     /// No protocols. Takes no memory.
     pub fn empty(alloc: Global) -> AlpnBuilder
         ensures { result ≡ [] }
@@ -42,15 +55,16 @@ impl AlpnBuilder {
         }
     }
 
-    /// Adds a protocol behind the others. Refused as `InvalidProtocol` exactly for no octets or more than 255 (RFC
-    /// 7301, section 3.1); then as `LongSvcParam` exactly where the value would have more than 65,535 octets; else when
-    /// allocation fails alone. A refused push leaves the builder as it was.
+    /// Adds the name of a protocol behind the others.
+    ///
+    /// `InvalidProtocol`: the name is empty or has more than 255 octets (RFC 7301, section 3.1). `LongSvcParam`: the
+    /// value would have more than 65,535 octets. `NoMemory`: allocation failed. The builder is then as before.
     pub fn push(&mut self, protocol: &[u8]) -> Result<(), BuildAlpnError>
         ensures answer { IsPushed result (length (protocols_wire self.old)) (length protocol.now) }
         ensures ok { OnOk result (self.new ≡ self.old ++ protocol.now ∷ []) }
         ensures err { OnErr result (self.new ≡ self.old) }
     {
-        if protocol.is_empty() || protocol.len() > 255 {
+        if protocol.is_empty() || protocol.len() > AlpnBuilder::MAX_PROTOCOL_LEN {
             return Err(BuildAlpnError::InvalidProtocol);
         }
         if self.octets.len() + 1 + protocol.len() > LongSvcParam::MAX_LEN {
@@ -60,7 +74,7 @@ impl AlpnBuilder {
         Ok(())
     }
 
-    /// The value of the protocols.
+    /// The value of the protocols. It takes the builder's octets; nothing is copied.
     pub fn freeze(self) -> Alpn
         ensures { result ≡ values.Alpn self }
     {
@@ -68,7 +82,7 @@ impl AlpnBuilder {
         ItemList::from_checked_octets(Octets::from_vec(octets))
     }
 
-    /// A copy, which may grow too. Fails only with `NoMemory`.
+    /// A copy, to which more can be added too. Fails only with `NoMemory`.
     pub fn try_clone(&self) -> Result<AlpnBuilder, NoMemory>
         ensures { IfOk result (λ builder. builder ≡ self.now) }
     {
@@ -78,7 +92,8 @@ impl AlpnBuilder {
     }
 }
 
-// Appends a protocol behind its length to whole protocols. Room is made first, so a refused call leaves the octets.
+/// Appends a protocol behind its length to whole protocols. Room is made first, so the octets stay as they are when
+/// allocation fails.
 fn append_protocol(octets: &mut Vec<u8>, protocol: &[u8]) -> Result<(), NoMemory>
     requires are { AreProtocols octets.old.items }
     requires protocol { length protocol.now ≤ 255 }

@@ -7,19 +7,19 @@ use registry::ShortBuf;
 use thiserror::Error;
 use wire_base::NoMemory;
 
-/// Why a protocol was not added to a list of protocols.
+/// Why a protocol was not added to an [`AlpnBuilder`](crate::AlpnBuilder).
 #[derive(Clone, Copy, Debug, PartialEq, Eq, Error)]
 pub enum BuildAlpnError {
-    /// The name of a protocol has no octets or more than 255.
+    /// The name of the protocol is empty or has more than 255 octets (RFC 7301, section 3.1).
     #[error("invalid ALPN protocol")]
     InvalidProtocol,
-    /// The value would have more than 65,535 octets.
+    /// The value would have more than 65,535 octets (RFC 9460, section 2.2).
     #[error("long SVCB value")]
     LongSvcParam,
-    /// A buffer has no room left. No call of this library answers it.
+    /// A buffer has no room left. No call of this library answers it; it stands for builders of other crates.
     #[error("short buffer")]
     ShortBuf,
-    /// The memory for the protocol isn't there.
+    /// Allocation failed; the builder is as before.
     #[error("want of memory")]
     NoMemory,
 }

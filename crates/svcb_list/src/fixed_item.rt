@@ -1,27 +1,28 @@
-//! The octets of items that have as many octets each.
+//! The octets of items of one length.
 
 ghost use Rattle.std.specs.Prelude.{◌≡◌, ◌*◌, ◌<◌, ◌≤◌, ℕ, List, ◌++◌, length, IfOk, OnOk};
 ghost use Rattle.std.specs.List.{flat_map};
 ghost use Rattle.name_spec.specs.Octets.{be2};
 ghost use Rattle.svcb_spec.specs.Values.{Each};
-ghost use Rattle.svcb_list.specs.Building.{IsBuilt, AreItems};
+ghost use Rattle.svcb_spec.specs.BuildingValues.{IsBuilt};
+ghost use Rattle.svcb_list.specs.Building.{AreItems};
 
 use registry::{BuildValueError, IanaNumber, Integer, LongSvcParam, SvcParamKey};
 use std::alloc::Global;
 use wire_base::{Address, NoMemory, Octets};
 
-/// An item of a list whose items have as many octets each.
+/// An item of a list whose items all have one length in octets.
 pub(crate) trait FixedItem: Copy {
-    /// The count of an item's octets.
+    /// The count of octets of each item.
     ghost LEN: { ℕ };
 
     /// An item's octets.
     ghost octets: { Self → List ℕ };
 
-    /// The count of an item's octets.
+    /// The count of octets of each item.
     const LEN: usize;
 
-    /// Appends the item's octets. Refused only when allocation fails.
+    /// Appends the item's octets. Fails only with `NoMemory`.
     fn append(self, target: &mut Vec<u8>) -> Result<(), NoMemory>
         ensures ok { OnOk result (target.new.items ≡ target.old.items ++ octets self) }
         ensures len { OnOk result (length (octets self) ≡ LEN) };
@@ -64,8 +65,9 @@ impl<const N: usize> FixedItem for Address<N> {
     }
 }
 
-/// The octets of items in order. Refused as `LongSvcParam` exactly where they are more than 65,535, and else only when
-/// allocation fails.
+/// The octets of items in order.
+///
+/// `LongSvcParam`: there would be more than 65,535. `NoMemory`: allocation failed.
 pub(crate) fn compose_items<I: FixedItem>(
     alloc: Global,
     items: &[I],
@@ -81,7 +83,7 @@ pub(crate) fn compose_items<I: FixedItem>(
     Ok(Octets::from_vec(octets))
 }
 
-// The octets of items in order. Room is made once.
+/// The octets of items in order. Room for all is made once.
 fn append_items<I: FixedItem>(alloc: Global, items: &[I]) -> Result<Vec<u8>, NoMemory>
     requires { length items.now * I.LEN ≤ 65535 }
     ensures joined { IfOk result (λ octets. octets.items ≡ flat_map I.octets items.now) }

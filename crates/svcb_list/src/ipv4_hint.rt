@@ -3,7 +3,7 @@
 ghost use Rattle.std.specs.Prelude.{◌≡◌, ◌*◌, ◌<◌, ◌∷◌, ◌%◌, ◌==◌, Some, true, ℕ, List, length, refl, IfOk};
 ghost use Rattle.svcb_spec.specs.Values as values;
 ghost use Rattle.svcb_list.specs.Holding.{addresses_hold};
-ghost use Rattle.svcb_list.specs.Building.{IsBuilt};
+ghost use Rattle.svcb_spec.specs.BuildingValues.{IsBuilt};
 ghost use Rattle.std.proofs.Common.{lit<};
 ghost use Rattle.svcb_spec.specs.ReadingValues.{parts, parts_fault};
 ghost use Rattle.name_spec.specs.Addresses.{ipv4_text};
@@ -19,22 +19,24 @@ use std::alloc::Global;
 use std::fmt;
 use wire_base::{Ipv4Addr, ParseError};
 
-/// The type of `ipv4hint`, whose items are addresses of four octets each.
+/// The type of `ipv4hint` (RFC 9460, section 7.3), whose items are addresses of four octets each.
 #[derive(Debug)]
 pub struct Ipv4HintType;
 
-/// IPv4 addresses at which the target may be reached.
+/// The value of `ipv4hint`: IPv4 addresses at which the target may be reached, for use until its own are known.
 pub type Ipv4Hint = ItemList<Ipv4HintType>;
 
-/// A view of IPv4 addresses.
+/// A view of the value of `ipv4hint`, which borrows the octets.
 pub type Ipv4HintRef<'a> = ItemListRef<'a, Ipv4HintType>;
 
 /// The IPv4 addresses in order.
 pub type Ipv4HintIter<'a> = ItemIter<'a, Ipv4HintType>;
 
 impl Ipv4Hint {
-    /// The value of a list of addresses. Refused as `LongSvcParam` exactly over 65,535 octets, which is over 16,383
-    /// addresses, else only when allocation fails.
+    /// The value of a list of addresses.
+    ///
+    /// `LongSvcParam`: there are more than 16,383 addresses, which have over 65,535 octets. `NoMemory`: allocation
+    /// failed.
     #[tactic(auto, using(crate::proofs::BuildLemmas::addresses_built))]
     pub fn from_addrs(alloc: Global, addrs: &[Ipv4Addr]) -> Result<Ipv4Hint, BuildValueError>
         ensures value { IfOk result (λ list. list ≡ values.Ipv4Hint addrs.now) }

@@ -3,7 +3,7 @@
 ghost use Rattle.std.specs.Prelude.{◌≡◌, ◌*◌, ◌<◌, ◌∷◌, ◌%◌, ◌==◌, Some, true, ℕ, List, length, refl, IfOk};
 ghost use Rattle.svcb_spec.specs.Values as values;
 ghost use Rattle.svcb_list.specs.Holding.{addresses_hold};
-ghost use Rattle.svcb_list.specs.Building.{IsBuilt};
+ghost use Rattle.svcb_spec.specs.BuildingValues.{IsBuilt};
 ghost use Rattle.std.proofs.Common.{lit<};
 ghost use Rattle.svcb_spec.specs.ReadingValues.{parts, parts_fault};
 ghost use Rattle.name_spec.specs.Addresses.{ipv6_text};
@@ -19,22 +19,24 @@ use std::alloc::Global;
 use std::fmt;
 use wire_base::{Ipv6Addr, ParseError};
 
-/// The type of `ipv6hint`, whose items are addresses of 16 octets each.
+/// The type of `ipv6hint` (RFC 9460, section 7.3), whose items are addresses of 16 octets each.
 #[derive(Debug)]
 pub struct Ipv6HintType;
 
-/// IPv6 addresses at which the target may be reached.
+/// The value of `ipv6hint`: IPv6 addresses at which the target may be reached, for use until its own are known.
 pub type Ipv6Hint = ItemList<Ipv6HintType>;
 
-/// A view of IPv6 addresses.
+/// A view of the value of `ipv6hint`, which borrows the octets.
 pub type Ipv6HintRef<'a> = ItemListRef<'a, Ipv6HintType>;
 
 /// The IPv6 addresses in order.
 pub type Ipv6HintIter<'a> = ItemIter<'a, Ipv6HintType>;
 
 impl Ipv6Hint {
-    /// The value of a list of addresses. Refused as `LongSvcParam` exactly over 65,535 octets, which is over 4,095
-    /// addresses, else only when allocation fails.
+    /// The value of a list of addresses.
+    ///
+    /// `LongSvcParam`: there are more than 4,095 addresses, which have over 65,535 octets. `NoMemory`: allocation
+    /// failed.
     #[tactic(auto, using(crate::proofs::BuildLemmas::addresses_built))]
     pub fn from_addrs(alloc: Global, addrs: &[Ipv6Addr]) -> Result<Ipv6Hint, BuildValueError>
         ensures value { IfOk result (λ list. list ≡ values.Ipv6Hint addrs.now) }

@@ -8,9 +8,10 @@ use std::alloc::AllocError;
 use std::fmt;
 use std::marker::{Model, PhantomData};
 
-/// The items of a list in order. Contracts see the octets of the items that are left.
+/// The items of a list in order. Each is read from the value's octets when it is asked for; no memory is taken.
 ///
-/// Count the items by `saturating_add` in a loop, since `count()` asks its caller for a bound.
+/// Contracts see the octets of the items that are left. Count the items by `saturating_add` in a loop, since `count()`
+/// requires a bound of its caller.
 #[derive(Drop)]
 pub struct ItemIter<'a, T: ListType> {
     rest: &'a [u8],
@@ -28,7 +29,7 @@ impl<'a, T: ListType> Model for ItemIter<'a, T> {
 }
 
 impl<'a, T: ListType> ItemIter<'a, T> {
-    /// The items in octets.
+    /// The items in octets that are whole items.
     pub(crate) fn new(octets: &'a [u8]) -> ItemIter<'a, T>
         requires { T.whole octets.now ≡ true }
         ensures { result ≡ octets.now }

@@ -1,6 +1,6 @@
 //! Lists of items as octets, owned and as views.
 
-ghost use Rattle.std.specs.Prelude.{◌≡◌, ◌<◌, ◌==◌, length, IfOk, ⊤};
+ghost use Rattle.std.specs.Prelude.{◌≡◌, ◌+◌, ◌<◌, ◌==◌, length, IfOk, ⊤};
 ghost use Rattle.wire_base.specs.Faults.{Gives, GivesCopy};
 ghost use Rattle.wire_base.specs.Input.{octets_left};
 ghost use Rattle.wire_base.specs.Moving.{TakesAll};
@@ -18,7 +18,10 @@ use std::hash::{Hash, Hasher};
 use std::marker::{Model, PhantomData};
 use wire_base::{NoMemory, Octets, ParseError, Parser};
 
-/// A list of items, held as its octets. Equality looks at the octets. Contracts see the value.
+/// A value that is a list of items, kept as the octets of the value, at most 65,535.
+///
+/// The octets are tested once, when the value is made: they are whole items without a fault. So reading an item later
+/// cannot fail. Equality compares the octets. Contracts see the value.
 #[derive(Drop)]
 #[derive_where(PartialEq, Eq, Hash)]
 pub struct ItemList<T: ListType> {
@@ -42,7 +45,7 @@ impl<T: ListType> Model for ItemList<T> {
     ghost inverse_ok = { λ list holds i. record { octets = holds.encodes i; kind = record {} } };
 }
 
-/// A view of a list of items. The octets stay where they are. Equality looks at the octets.
+/// A view of a value that is a list of items, which borrows the octets. Equality compares the octets.
 #[derive_where(PartialEq, Eq, Hash)]
 pub struct ItemListRef<'a, T: ListType> {
     /// The octets, at most 65,535.
@@ -53,7 +56,7 @@ pub struct ItemListRef<'a, T: ListType> {
 }
 
 impl<T: ListType> ItemList<T> {
-    /// The value that octets without a fault are.
+    /// The value of octets that are known to have no fault.
     pub(crate) fn from_checked_octets(octets: Octets) -> ItemList<T>
         requires { HoldsValue T.value T.fault T.whole octets }
         ensures { result ≡ T.value octets }
@@ -64,7 +67,9 @@ impl<T: ListType> ItemList<T> {
         }
     }
 
-    /// The value that octets are. Refused by their first fault, as `Form` or `ShortInput`; they are then dropped.
+    /// The value that octets are.
+    ///
+    /// `Form`, `ShortInput`: the octets have a fault, and [`ListType::check`] says which. They are then dropped.
     pub fn from_octets(octets: Octets) -> Result<ItemList<T>, ParseError>
         ensures answer { Gives (taking_all octets) result (whole_value T.fault T.value octets) }
         ensures value { IfOk result (λ list. list ≡ T.value octets) }
@@ -77,8 +82,10 @@ impl<T: ListType> ItemList<T> {
         })
     }
 
-    /// The value that all octets before the end of the data are. Refused by their first fault, as `Form` or
-    /// `ShortInput`, and else only when allocation fails; the parser then stays.
+    /// The value that all octets before the end of the data are.
+    ///
+    /// `Form`, `ShortInput`: the octets have a fault, and [`ListType::check`] says which. `NoMemory`: allocation
+    /// failed. The parser then stays.
     pub fn parse(alloc: Global, parser: &mut Parser<'_>) -> Result<ItemList<T>, ParseError>
         ensures answer { GivesCopy (taking_all (octets_left parser.old)) result
             (whole_value T.fault T.value (octets_left parser.old)) }
@@ -136,8 +143,9 @@ impl<T: ListType> ItemList<T> {
 }
 
 impl<'a, T: ListType> ItemListRef<'a, T> {
-    /// A view of the value that octets are. Refused by their first fault, as `Form` or `ShortInput`, and never when
-    /// allocation fails.
+    /// A view of the value that octets are.
+    ///
+    /// `Form`, `ShortInput`: the octets have a fault, and [`ListType::check`] says which. Never `NoMemory`.
     pub fn from_slice(slice: &'a [u8]) -> Result<ItemListRef<'a, T>, ParseError>
         ensures answer { Gives (λ view. taking_all slice.now (T.value view.slice.now)) result
             (whole_value T.fault T.value slice.now) }
@@ -150,13 +158,17 @@ impl<'a, T: ListType> ItemListRef<'a, T> {
         })
     }
 
-    /// A view of the value that all octets before the end of the data are. Refused by their first fault, as `Form` or
-    /// `ShortInput`, and never with `NoMemory`; the parser then stays.
+    /// A view of the value that all octets before the end of the data are.
+    ///
+    /// `Form`, `ShortInput`: the octets have a fault, and [`ListType::check`] says which. Never `NoMemory`. The parser
+    /// then stays.
     pub fn parse(parser: &mut Parser<'a>) -> Result<ItemListRef<'a, T>, ParseError>
-        ensures answer { Gives (λ view. taking_all (octets_left parser.old) (T.value view.slice.now))
-            result (whole_value T.fault T.value (octets_left parser.old)) }
+        ensures answer {
+            Gives (λ view. taking_all (octets_left parser.old) (T.value view.slice.now)) result
+            (whole_value T.fault T.value (octets_left parser.old)) }
         ensures octets { IfOk result (λ view. view.slice.now ≡ octets_left parser.old) }
         ensures takes { TakesAll parser.old parser.new result }
+        ensures len { parser.old.pos + length (octets_left parser.old) ≡ parser.old.end }
     {
         let view = ItemListRef::from_slice(parser.remaining_octets())?;
         parser.advance_to_end();
@@ -172,7 +184,7 @@ impl<'a, T: ListType> ItemListRef<'a, T> {
         self.slice
     }
 
-    /// The same value with octets of its own. Fails only with `NoMemory`.
+    /// An owned copy. Fails only with `NoMemory`.
     pub fn to_owned_data(&self, alloc: Global) -> Result<ItemList<T>, NoMemory>
         ensures value { IfOk result (λ list. list ≡ T.value self.now.slice.now) }
         ensures encodes { IfOk result (λ list. encode list ≡ self.now.slice.now) }

@@ -11,7 +11,7 @@ use crate::list_type::ListItems;
 use std::fmt;
 use wire_base::PrintedOctets;
 
-/// The key, `=`, and the items with commas between them. A list without items is printed as nothing.
+/// The key, `=`, and the items with commas between them, as `alpn=h2,h3`. A list without items is printed as nothing.
 impl<'a, T: ListItems<'a>> fmt::Display for ItemListRef<'a, T> {
     ghost output = { λ view. Some (value_printed (T.value view.slice.now)) };
 
@@ -30,7 +30,7 @@ impl<'a, T: ListItems<'a>> fmt::Display for ItemListRef<'a, T> {
     }
 }
 
-/// Writes an item that is octets, as [`PrintedOctets`] has them. A comma or a backslash of the item stands behind a
+/// Writes an item that is octets, as [`PrintedOctets`] prints them. A comma or a backslash of the item stands behind a
 /// backslash, which is itself printed as two.
 pub(crate) fn write_escaped<W: fmt::Write>(item: &[u8], f: &mut fmt::Formatter<W>) -> fmt::Result
     ensures { WritesOnOk W.Write.write_str_gives f.old result

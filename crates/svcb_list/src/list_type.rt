@@ -14,6 +14,13 @@ use std::fmt;
 use wire_base::ParseError;
 
 /// A type of service parameter whose value is a list of items.
+///
+/// An implementor names the key and tests octets, and by [`ListItems`] reads and writes an item. [`ItemList`] and
+/// [`ItemListRef`] do the rest: they read, copy, compose, iterate and print. The ghost members `has_key`, `has_items`,
+/// `no_items`, `lists` and `prints` are the proofs that the value and its text are those that the other members say.
+///
+/// [`ItemList`]: crate::ItemList
+/// [`ItemListRef`]: crate::ItemListRef
 pub trait ListType {
     /// The parameter's key.
     ghost key: { ℕ };
@@ -34,8 +41,10 @@ pub trait ListType {
     fn key() -> SvcParamKey
         ensures { result ≡ key };
 
-    /// Tests octets that are to be a value. Refused by their first fault, as `Form` or `ShortInput`, and never when
-    /// allocation fails.
+    /// Tests octets that are to be a value.
+    ///
+    /// `Form`: they are more than 65,535, their count is no multiple of an item's length, or there are none where the
+    /// type must have an item. `ShortInput`: the last item, which says its own length, is cut off. Never `NoMemory`.
     fn check(octets: &[u8]) -> Result<(), ParseError>
         ensures answer { Gives (λ _. taking_all octets.now (value octets.now)) result
             (whole_value fault value octets.now) }
@@ -49,7 +58,7 @@ pub trait ListType {
         → HoldsValue value fault whole octets → HasItems (value octets) };
 }
 
-/// The items of a type, which may stay in the octets.
+/// The items of a list type, which may borrow the value's octets.
 pub trait ListItems<'a>: ListType {
     /// An item.
     type Item: Drop;
@@ -77,7 +86,7 @@ pub trait ListItems<'a>: ListType {
         ensures whole { Self.whole result.1.now ≡ true }
         ensures shorter { length result.1.now < length octets.now };
 
-    /// Writes the text of an item. Refused only where `f` refuses.
+    /// Writes the text of an item. Fails only where `f` does.
     fn write_item<W: fmt::Write>(item: Self::Item, f: &mut fmt::Formatter<W>) -> fmt::Result
         ensures { WritesOnOk W.Write.write_str_gives f.old result (text (seen item)) f.new };
 

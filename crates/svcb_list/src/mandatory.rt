@@ -3,7 +3,7 @@
 ghost use Rattle.std.specs.Prelude.{◌≡◌, ◌*◌, ◌<◌, ◌∷◌, ◌%◌, ◌==◌, Some, true, ℕ, length, refl, IfOk};
 ghost use Rattle.svcb_spec.specs.Values as values;
 ghost use Rattle.svcb_list.specs.Holding.{numbers_hold};
-ghost use Rattle.svcb_list.specs.Building.{IsBuilt};
+ghost use Rattle.svcb_spec.specs.BuildingValues.{IsBuilt};
 ghost use Rattle.svcb_spec.specs.ReadingValues.{numbers, parts_fault};
 ghost use Rattle.svcb_spec.specs.PrintedValues.{key_name, value_printed};
 
@@ -17,22 +17,23 @@ use std::alloc::Global;
 use std::fmt;
 use wire_base::ParseError;
 
-/// The type of `mandatory`, whose items are keys of two octets each.
+/// The type of `mandatory` (RFC 9460, section 8), whose items are keys of two octets each.
 #[derive(Debug)]
 pub struct MandatoryType;
 
-/// The keys of the parameters without which the record is not to be used.
+/// The value of `mandatory`: the keys that a client must know, or else leave the record aside.
 pub type Mandatory = ItemList<MandatoryType>;
 
-/// A view of mandatory keys.
+/// A view of the value of `mandatory`, which borrows the octets.
 pub type MandatoryRef<'a> = ItemListRef<'a, MandatoryType>;
 
 /// The mandatory keys in order.
 pub type MandatoryIter<'a> = ItemIter<'a, MandatoryType>;
 
 impl Mandatory {
-    /// The value of a list of keys. Refused as `LongSvcParam` exactly over 65,535 octets, which is over 32,767 keys,
-    /// else only when allocation fails.
+    /// The value of a list of keys, in the order in which they are given.
+    ///
+    /// `LongSvcParam`: there are more than 32,767 keys, which have over 65,535 octets. `NoMemory`: allocation failed.
     #[tactic(auto, using(crate::proofs::BuildLemmas::numbers_built))]
     pub fn from_keys(alloc: Global, keys: &[SvcParamKey]) -> Result<Mandatory, BuildValueError>
         ensures value { IfOk result (λ list. list ≡ values.Mandatory keys.now) }

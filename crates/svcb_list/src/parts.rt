@@ -8,8 +8,9 @@ ghost use Rattle.svcb_spec.specs.ReadingValues.{numbers, parts, parts_fault, tak
 use registry::LongSvcParam;
 use wire_base::{Address, ParseError};
 
-/// Tests octets that are to be parts of `len` octets each. Refused as `Form`: they are more than 65,535, or the last part
-/// is too short.
+/// Tests octets that are to be parts of `len` octets each.
+///
+/// `Form`: they are more than 65,535, or the last part is too short.
 pub(crate) fn check_parts(octets: &[u8], len: usize) -> Result<(), ParseError>
     requires { 0 < len }
     ensures answer { (value : Value) → Gives (λ _. taking_all octets.now value) result

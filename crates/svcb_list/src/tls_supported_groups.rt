@@ -3,7 +3,7 @@
 ghost use Rattle.std.specs.Prelude.{◌≡◌, ◌*◌, ◌<◌, ◌∷◌, ◌%◌, ◌==◌, Some, true, ℕ, length, refl, IfOk};
 ghost use Rattle.svcb_spec.specs.Values as values;
 ghost use Rattle.svcb_list.specs.Holding.{numbers_hold, some_groups};
-ghost use Rattle.svcb_list.specs.Building.{IsBuiltNotEmpty};
+ghost use Rattle.svcb_spec.specs.BuildingValues.{IsBuiltNotEmpty};
 ghost use Rattle.svcb_spec.specs.ReadingValues.{numbers, groups_fault};
 ghost use Rattle.std.specs.Fmt.{decimal};
 ghost use Rattle.svcb_spec.specs.PrintedValues.{value_printed};
@@ -22,18 +22,20 @@ use wire_base::ParseError;
 #[derive(Debug)]
 pub struct TlsSupportedGroupsType;
 
-/// The groups for key exchange that a server supports, at least one.
+/// The value of `tls-supported-groups`: the groups for key exchange that a server supports, at least one.
 pub type TlsSupportedGroups = ItemList<TlsSupportedGroupsType>;
 
-/// A view of supported groups.
+/// A view of the value of `tls-supported-groups`, which borrows the octets.
 pub type TlsSupportedGroupsRef<'a> = ItemListRef<'a, TlsSupportedGroupsType>;
 
 /// The supported groups in order.
 pub type TlsSupportedGroupsIter<'a> = ItemIter<'a, TlsSupportedGroupsType>;
 
 impl TlsSupportedGroups {
-    /// The value of a list of groups. Refused as `EmptyValue` exactly for no groups; then as `LongSvcParam` exactly
-    /// over 65,535 octets, which is over 32,767 groups; else only when allocation fails.
+    /// The value of a list of groups, in the order in which they are given.
+    ///
+    /// `EmptyValue`: there is no group. `LongSvcParam`: there are more than 32,767 groups, which have over 65,535
+    /// octets. `NoMemory`: allocation failed.
     #[tactic(auto, using(crate::proofs::BuildLemmas::numbers_built))]
     pub fn from_keys(alloc: Global, keys: &[u16]) -> Result<TlsSupportedGroups, BuildValueError>
         ensures value { IfOk result (λ list. list ≡ values.TlsSupportedGroups keys.now) }

@@ -5,7 +5,7 @@ use Rattle.std.proofs.Math.Seq.{drop-cons, take-suc}
 use Rattle.std.proofs.lemmas.Bool.Decides.{nat_tests}
 use Rattle.std.proofs.lemmas.List.Concat.{flat_map-append}
 use Rattle.svcb_spec.specs.Values.{protocols_wire}
-use Rattle.svcb_list.specs.Pushing.{IsProtocolLength}
+use Rattle.svcb_spec.specs.BuildingValues.{IsProtocolLength}
 use Rattle.svcb_params.specs.ValueFaults.{alpn_fault_behind}
 
 -- one more protocol has its octet of length, and its own octets

@@ -7,6 +7,8 @@ mod ReadPairs
 pub mod ItemLaws
 pub mod PairsBack
 pub mod ValueLaws
+pub mod CommaPieces
+pub mod ProtocolTexts
 mod Vectors
 mod RecordLaws
 pub mod RebuildLaws

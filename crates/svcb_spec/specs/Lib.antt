@@ -9,6 +9,7 @@ pub mod DataDocumentLaws
 pub mod Params
 pub mod Values
 pub mod ReadingValues
+pub mod BuildingValues
 pub mod Records
 pub mod Rebuilding
 pub mod Laws

@@ -1,12 +1,11 @@
 //! Data that is cut off, values that are none of their type, and limits.
 
+use crate::rebuilding::value;
 use std::alloc::Global;
 use std::test::Fail;
 use svcb_params::SvcParamsRef;
-use svcb_rdata::{
-    AllValues, Reply, SvcParamKey, SvcbRef, SvcbVariant, UnknownSvcParam, rebuild_svcb,
-};
-use wire_base::{Octets, ParseError, Parser};
+use svcb_rdata::{Reply, SvcbRef, SvcbVariant, rebuild_svcb};
+use wire_base::{ParseError, Parser};
 
 /// Priority 1, the root, `alpn=h3,h2`, two addresses as `ipv4hint`, and one as `ipv6hint`.
 const DATA: &[u8; 45] =
@@ -132,11 +131,6 @@ const REPLIES: [[Reply; 3]; 17] = [
     [A, A, A],
     [A, A, A],
 ];
-
-fn value(alloc: Global, key: u16, octets: &[u8]) -> Result<AllValues, Fail> {
-    let param = UnknownSvcParam::new(SvcParamKey::from(key), Octets::from_slice(alloc, octets)?)?;
-    Ok(AllValues::from(param))
-}
 
 #[test]
 fn a_limit_refuses_each_push_by_itself(rt: HostRuntime) -> Result<(), Fail> {

@@ -28,7 +28,8 @@ impl<'a> ParseSvcParamValue<'a> for Level {
 
     ghost takes = { λ key. nat_le 65280 key };
 
-    ghost reads = { λ _ octets. if nat_lt (length octets) 1 then Err Short else Ok (record { value = slice_index octets 0; len = 1 }) };
+    ghost reads = { λ _ octets. if nat_lt (length octets) 1 then Err Short
+        else Ok (record { value = slice_index octets 0; len = 1 }) };
 
     fn parse_value(key: SvcParamKey, parser: &mut Parser<'a>) -> Result<Option<Level>, ParseError> {
         let octets = parser.remaining_octets();

@@ -1,12 +1,22 @@
 //! Parameters, their copies, and their octets.
 
-use crate::values::is_composed;
-use registry::{ParseSvcParamValue, SvcParamKey};
+use registry::{ComposeSvcParamValue, ParseSvcParamValue, SvcParamKey};
 use std::alloc::Global;
 use svcb_params::{BufError, SvcParams, SvcParamsBuilder, SvcParamsRef};
 use svcb_text::AllValuesRef;
 use svcb_value::{UnknownSvcParam, UnknownSvcParamRef};
 use wire_base::{NoMemory, ParseError, Parser};
+
+/// Whether a value is composed to octets, through the trait.
+fn is_composed<V: ComposeSvcParamValue>(
+    alloc: Global,
+    value: &V,
+    octets: &[u8],
+) -> Result<bool, NoMemory> {
+    let mut target = Vec::new(alloc);
+    value.compose_value(&mut target)?;
+    Ok(target.as_slice() == octets)
+}
 
 /// Keys, octets under them, and the octets of the parameter.
 const UNKNOWN: [(u16, &[u8], &[u8]); 3] = [

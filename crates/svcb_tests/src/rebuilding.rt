@@ -108,7 +108,8 @@ fn answer_of(rebuilt: &Result<Rebuilt, RebuildError>) -> Answer<'_> {
     }
 }
 
-fn value(alloc: Global, key: u16, octets: &[u8]) -> Result<AllValues, Fail> {
+/// A value of octets under a key, without a type.
+pub(crate) fn value(alloc: Global, key: u16, octets: &[u8]) -> Result<AllValues, Fail> {
     let param = UnknownSvcParam::new(SvcParamKey::from(key), Octets::from_slice(alloc, octets)?)?;
     Ok(AllValues::from(param))
 }

@@ -73,8 +73,8 @@ fn chain_of_pointers(low: u8) -> [u8; 515] {
     message
 }
 
-/// What reading record data gives: the count of its target's octets, or its fault; and what rebuilding it gives: the count
-/// of all octets, or the refusal.
+/// What reading record data gives: the count of its target's octets, or its fault; and what rebuilding it gives: the
+/// count of all octets, or the refusal.
 type Lens = (Result<u16, ParseError>, Result<usize, RebuildError>);
 
 /// What reading and rebuilding the record data from a place on give.

@@ -8,4 +8,4 @@ pub mod ListLemmas
 pub mod ListValueLemmas
 pub mod ProtocolLemmas
 pub mod ValueLemmas
-mod Wholes
+mod WholeValueLemmas

@@ -1,11 +1,11 @@
 -- Values that are lists, as lists that are read item by item.
-use Rattle.std.proofs.Common.{◌≡◌, ℕ, ◌<◌, true, false, cond, List, [], ◌∷◌, length, Result, Ok, Err, refl, sym, ap, ◌∙◌, arith}
-use Rattle.std.specs.Prelude.{◌==◌}
+use Rattle.std.proofs.Common.{◌≡◌, ℕ, ◌<◌, List, [], ◌∷◌, length, Result, Ok, Err, refl, sym, ap, ◌∙◌, arith}
 use Rattle.name_spec.specs.Addresses.{ipv4_of, ipv6_of}
 use Rattle.svcb_spec.specs.Values.{Value, Mandatory, Ipv4Hint, Ipv6Hint, TlsSupportedGroups}
 use Rattle.text_spec.specs.declared.errors.ScanError.{ScanError}
-use Rattle.svcb_spec.specs.ListTexts.{◌>>=◌, onto_piece, comma_pieces, comma_items, plain_item, read_items}
+use Rattle.svcb_spec.specs.ListTexts.{◌>>=◌, comma_pieces, comma_items, plain_item, read_items}
 use Rattle.svcb_spec.specs.ValueTexts.{some_text, short_value, mandatory_item, in_ascending_order, mandatory_value, ipv4hint_value, ipv6hint_value, groups_value}
+use Rattle.svcb_spec.proofs.CommaPieces.{some_pieces}
 use Rattle.svcb_text.specs.Lists.{read_list, add_items, add_last, add_key, read_address, read_group}
 use Rattle.svcb_text.proofs.ListLemmas.{add_items-last, add_items-keys, length-read_items}
 
@@ -68,19 +68,6 @@ mandatory_value-list text =
     ]
 
 -- ---- a list has items
-
-more_pieces : (c : ℕ) (pieces : List (List ℕ)) → 0 < length (onto_piece c pieces)
-more_pieces c [] = omega arith
-more_pieces c (piece ∷ pieces) = omega arith
-
-some_pieces : (text : List ℕ) → 0 < length (comma_pieces text)
-some_pieces [] = omega arith
-some_pieces (c ∷ text) =
-    elim (c == 44) as
-    (λ b. 0 < length (cond b ([] ∷ comma_pieces text) (onto_piece c (comma_pieces text)))) [
-      | true ↦ omega arith
-      | false ↦ more_pieces c (comma_pieces text)
-    ]
 
 pub some_items : {A : Type 0} (read : List A → List ℕ → Result A ScanError) (text : List ℕ)
     (items : List A) → read_list (add_last read) [] text ≡ Ok items → 0 < length items

@@ -1,6 +1,6 @@
 -- What is made of a text that was read.
 use Rattle.std.proofs.Common.{◌≡◌, ℕ, ◌<◌, ◌≤◌, true, false, cond, List, length, Result, Ok, Err, refl, sym, ap, subst, ◌∙◌, arith}
-use Rattle.std.specs.Prelude.{nat_lt, IfOk, IfErr, OnOk}
+use Rattle.std.specs.Prelude.{nat_lt, IfOk}
 use Rattle.std.specs.Result.{result_map_both}
 use Rattle.std.specs.Str.{IsUtf8, is_utf8}
 use Rattle.std.proofs.lemmas.Bool.Decides.{nat_tests}
@@ -8,8 +8,7 @@ use Rattle.std.proofs.lemmas.Str.{IsUtf8-from_is_utf8, is_utf8-from_IsUtf8}
 use Rattle.registry.specs.declared.errors.BuildValueError.{BuildValueError}
 use Rattle.registry.specs.declared.errors.BuildValueError.TheVariants.{LongSvcParam, ShortBuf, EmptyValue, NoMemory}
 use Rattle.svcb_spec.specs.Values.{Value, encode}
-use Rattle.svcb_value.specs.Building.{IsCause}
-use Rattle.svcb_list.specs.Building.{IsBuilt, IsBuiltNotEmpty}
+use Rattle.svcb_spec.specs.BuildingValues.{IsBuilt, IsBuiltNotEmpty}
 use Rattle.text_spec.specs.declared.errors.ScanError.{ScanError}
 use Rattle.text_spec.specs.declared.errors.ScanError.TheVariants.{BadUtf8, LongValue}
 use Rattle.text_spec.specs.Scanning.{Answers}
@@ -41,44 +40,6 @@ short_value-long value long =
     let exceeds : nat_lt 65535 (length (encode value)) ≡ true = grind (arith, nat_tests) in
     rw exceeds refl
 
--- a value that is not made is too long, unless memory is wanting
-pub cause_answers : (error : BuildValueError) (value : Value)
-    → IsCause (length (encode value)) error
-    → Answers {T = Value} (λ v. v) (Err (scan_fault_of error)) (short_value value)
-cause_answers LongSvcParam value cause = short_value-long value cause
-cause_answers ShortBuf value cause = absurd cause
-cause_answers EmptyValue value cause = absurd cause
-cause_answers NoMemory value cause = tt
-
--- what is made of a value whose octets are counted answers as the value does
-module _ (made : Result Value BuildValueError) (outcome : Result Value ScanError) (value : Value)
-    (is : IfOk made (λ v. v ≡ value))
-    (passed : outcome ≡ result_map_both (λ v. v) scan_fault_of made) where
-  pub caused_answers : OnOk made (length (encode value) ≤ 65535)
-      → IfErr made (IsCause (length (encode value)))
-      → Answers {T = Value} (λ v. v) outcome (short_value value)
-  caused_answers short cause = rw passed (answer made is short cause)
-    where
-      answer : (made : Result Value BuildValueError) → IfOk made (λ v. v ≡ value)
-          → OnOk made (length (encode value) ≤ 65535) → IfErr made (IsCause (length (encode value)))
-          → Answers {T = Value} (λ v. v) (result_map_both (λ v. v) scan_fault_of made)
-          (short_value value)
-      answer (Ok v) is short cause = short_value-ok value short ∙ ap (λ (v : Value). Ok v) (sym is)
-      answer (Err error) is short cause = cause_answers error value cause
-
-built_short : (made : Result Value BuildValueError) (len : ℕ) → IsBuilt made len
-    → OnOk made (len ≤ 65535)
-built_short (Ok v) len built = built
-built_short (Err error) len built = tt
-
-built_cause : (made : Result Value BuildValueError) (len : ℕ) → IsBuilt made len
-    → IfErr made (IsCause len)
-built_cause (Ok v) len built = tt
-built_cause (Err LongSvcParam) len built = built
-built_cause (Err ShortBuf) len built = built
-built_cause (Err EmptyValue) len built = built
-built_cause (Err NoMemory) len built = built
-
 -- a value that has items is built as any value is
 pub built_not_empty : (made : Result Value BuildValueError) (len : ℕ) → 0 < len
     → IsBuiltNotEmpty made len → IsBuilt made len
@@ -88,12 +49,19 @@ built_not_empty (Err ShortBuf) len some built = built
 built_not_empty (Err EmptyValue) len some built = absurd (omega arith)
 built_not_empty (Err NoMemory) len some built = built.1
 
+-- a value that is made is the answer, and one that is not made is too long unless allocation fails
+made_answers : (made : Result Value BuildValueError) (value : Value) → IfOk made (λ v. v ≡ value)
+    → IsBuilt made (length (encode value))
+    → Answers {T = Value} (λ v. v) (result_map_both (λ v. v) scan_fault_of made) (short_value value)
+made_answers (Ok v) value is built = short_value-ok value built ∙ ap (λ (v : Value). Ok v) (sym is)
+made_answers (Err LongSvcParam) value is built = short_value-long value built
+made_answers (Err ShortBuf) value is built = absurd built
+made_answers (Err EmptyValue) value is built = absurd built
+made_answers (Err NoMemory) value is built = tt
+
 pub built_answers : (made : Result Value BuildValueError) (outcome : Result Value ScanError)
     (value : Value) (len : ℕ) → IfOk made (λ v. v ≡ value)
     → outcome ≡ result_map_both (λ v. v) scan_fault_of made → length (encode value) ≡ len
     → IsBuilt made len → Answers {T = Value} (λ v. v) outcome (short_value value)
 built_answers made outcome value len is passed count built =
-    let counted : IsBuilt made (length (encode value)) =
-    subst (λ (n : ℕ). IsBuilt made n) (sym count) built in
-    caused_answers made outcome value is passed (built_short made (length (encode value)) counted)
-    (built_cause made (length (encode value)) counted)
+    rw passed (made_answers made value is (subst (λ (n : ℕ). IsBuilt made n) (sym count) built))

@@ -10,7 +10,17 @@ use svcb_list::{Alpn, Ipv4Hint, Ipv6Hint, Mandatory, TlsSupportedGroups};
 use svcb_value::{DohPath, Ech, NoDefaultAlpn, Ohttp, Port, UnknownSvcParam};
 use wire_base::NoMemory;
 
-/// A value of any key. Equality looks at the variant, the key and the octets.
+/// A value of any key: of the key's type, where the library has one, and else any octets.
+///
+/// Made of one type's value by `From`, read by [`AllValuesRef`], or scanned by [`scan_param`](crate::scan_param).
+/// Equality compares the variant, the key and the octets.
+///
+/// ```
+/// let value = scan_param(alloc, b"alpn=h2,h3")?;
+/// // value.key() is `SvcParamKey::ALPN`; the value is `AllValues::Alpn`, and is printed as `alpn=h2,h3`
+/// let other = scan_param(alloc, b"key667=hello")?;
+/// // other is `AllValues::Unknown`, whose octets are `hello`
+/// ```
 #[derive(Debug, PartialEq, Eq, Hash, Drop)]
 pub enum AllValues {
     /// The keys that a client must know.
@@ -62,9 +72,7 @@ impl AllValues {
         }
     }
 
-    /// A copy.
-    ///
-    /// `NoMemory`: the memory for it isn't there.
+    /// A copy. Fails only with `NoMemory`.
     pub fn try_clone(&self, alloc: Global) -> Result<AllValues, NoMemory>
         ensures { IfOk result (λ value. value_of value ≡ value_of self.now) }
     {
@@ -155,7 +163,7 @@ impl ComposeSvcParamValue for AllValues {
     }
 }
 
-/// The text of the value.
+/// The text of a view of the value.
 impl fmt::Display for AllValues {
     ghost use Rattle.std.specs.Prelude.{Some};
     ghost use Rattle.svcb_spec.specs.PrintedValues.{value_printed};
@@ -164,18 +172,6 @@ impl fmt::Display for AllValues {
     ghost output = { λ value. Some (value_printed (value_of value)) };
 
     fn fmt<W: fmt::Write>(&self, f: &mut fmt::Formatter<W>) -> fmt::Result {
-        match self {
-            AllValues::Mandatory(value) => write!(f, "{value}"),
-            AllValues::Alpn(value) => write!(f, "{value}"),
-            AllValues::NoDefaultAlpn(value) => write!(f, "{value}"),
-            AllValues::Port(value) => write!(f, "{value}"),
-            AllValues::Ech(value) => write!(f, "{value}"),
-            AllValues::Ipv4Hint(value) => write!(f, "{value}"),
-            AllValues::Ipv6Hint(value) => write!(f, "{value}"),
-            AllValues::DohPath(value) => write!(f, "{value}"),
-            AllValues::Ohttp(value) => write!(f, "{value}"),
-            AllValues::TlsSupportedGroups(value) => write!(f, "{value}"),
-            AllValues::Unknown(value) => write!(f, "{value}"),
-        }
+        write!(f, "{}", self.for_ref())
     }
 }

@@ -11,7 +11,7 @@ use svcb_list::{AlpnRef, Ipv4HintRef, Ipv6HintRef, MandatoryRef, TlsSupportedGro
 use svcb_value::{DohPathRef, EchRef, NoDefaultAlpn, Ohttp, Port, UnknownSvcParamRef};
 use wire_base::{NoMemory, ParseError, Parser};
 
-/// A view of a value of any key. Equality looks at the variant, the key and the octets.
+/// A view of a value of any key, which borrows the octets. Equality compares the variant, the key and the octets.
 #[derive(Clone, Copy, Debug, PartialEq, Eq, Hash)]
 pub enum AllValuesRef<'a> {
     /// The keys that a client must know.
@@ -43,8 +43,9 @@ impl<'a> AllValuesRef<'a> {
     ghost use Rattle.svcb_text.specs.AllValues.{value_of};
     ghost use Rattle.svcb_text.specs.AllValuesRef.{seen_view};
 
-    /// The value that octets are under a key: of the key's type where they are wholly one, else the octets as they
-    /// stand. There are at most 65,535 octets (RFC 9460, section 2.2). No memory is taken.
+    /// The value of octets under a key, which never fails: of the key's type where all of the octets are such a value,
+    /// and else the octets without a type. At most 65,535 octets are allowed (RFC 9460, section 2.2). No memory is
+    /// taken.
     pub fn parse_any(key: SvcParamKey, slice: &'a [u8]) -> AllValuesRef<'a>
         requires fits { length slice.now ≤ 65535 }
         ensures { seen_view result ≡ value_in key slice.now }
@@ -57,9 +58,7 @@ impl<'a> AllValuesRef<'a> {
         }
     }
 
-    /// An owned copy.
-    ///
-    /// `NoMemory`: the memory for it isn't there.
+    /// An owned copy. Fails only with `NoMemory`.
     pub fn to_owned_data(&self, alloc: Global) -> Result<AllValues, NoMemory>
         ensures { IfOk result (λ value. value_of value ≡ seen_view self.now) }
     {
@@ -108,7 +107,7 @@ impl<'a> SvcParamValue for AllValuesRef<'a> {
     }
 }
 
-/// Every key is taken: octets under the key of a type are read as that type, and other octets stay as they are.
+/// Every key is taken. Octets under the key of a type must be a value of that type; under another key any octets are.
 impl<'a> ParseSvcParamValue<'a> for AllValuesRef<'a> {
     ghost use Rattle.std.specs.Prelude.{true};
     ghost use Rattle.svcb_spec.specs.Values.{Value};
@@ -127,8 +126,6 @@ impl<'a> ParseSvcParamValue<'a> for AllValuesRef<'a> {
         key: SvcParamKey,
         parser: &mut Parser<'a>,
     ) -> Result<Option<AllValuesRef<'a>>, ParseError> {
-        // the parser stands within its data
-        let _left = parser.remaining_octets();
         match key {
             SvcParamKey::MANDATORY => Ok(Some(AllValuesRef::Mandatory(MandatoryRef::parse(
                 parser,

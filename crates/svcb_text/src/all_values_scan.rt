@@ -1,4 +1,4 @@
-//! Values of every type, read from text.
+//! Values of every type, scanned from text.
 
 ghost use Rattle.std.specs.Prelude.{true};
 ghost use Rattle.svcb_spec.specs.Values.{Value};
@@ -16,7 +16,8 @@ use std::alloc::Global;
 use svcb_value::{NoDefaultAlpn, Ohttp};
 use text_spec::ScanError;
 
-/// The value of a key's type that a text spells. A key without a type takes any octets.
+/// The value of a key's type that a text spells; any octets under a key without a type. Fails with the first fault of
+/// the text, or with `NoMemory`.
 pub(crate) fn scan_value(
     alloc: Global,
     key: SvcParamKey,
@@ -47,7 +48,8 @@ pub(crate) fn scan_value(
     }
 }
 
-/// Every key is taken: the text under the key of a type is read as that type, and other texts are kept as octets.
+/// Every key is taken. The text under the key of a type must spell a value of that type; under another key it is the
+/// value's octets.
 impl ScanSvcParamValue for AllValues {
     ghost Seen = { Value };
 

@@ -1,9 +1,9 @@
-//! Values of `alpn`, whose items may have escapes, read from text.
+//! Values of `alpn`, whose items may have escapes, scanned from text.
 
 ghost use Rattle.std.specs.Prelude.{◌≡◌, ◌<◌, ◌==◌, length, IfOk};
 ghost use Rattle.svcb_spec.specs.Values as values;
 ghost use Rattle.svcb_spec.specs.Values.{Each};
-ghost use Rattle.svcb_list.specs.Pushing.{IsProtocolLength};
+ghost use Rattle.svcb_spec.specs.BuildingValues.{IsProtocolLength};
 ghost use Rattle.text_spec.specs.Scanning.{Answers};
 ghost use Rattle.svcb_spec.specs.ValueTexts.{alpn_value, protocols_of, short_value};
 
@@ -26,7 +26,9 @@ pub(crate) fn scan_alpn(alloc: Global, text: &[u8]) -> Result<Alpn, ScanError>
     build_alpn(alloc, &protocols)
 }
 
-/// The protocols of a text, each without its escapes. `LongItem`: one has more than 255 octets.
+/// The protocols of a text, each without its escapes.
+///
+/// `LongItem`: one has more than 255 octets. The other faults are those of `next_item`.
 fn read_protocols(alloc: Global, text: &[u8]) -> Result<Vec<Octets>, ScanError>
     requires { 0 < length text.now }
     ensures answer { Answers (λ list. list.items) result (protocols_of text.now) }
@@ -36,7 +38,7 @@ fn read_protocols(alloc: Global, text: &[u8]) -> Result<Vec<Octets>, ScanError>
     let mut items = SvcParamValueScanIter::from_slice(text);
     let mut protocols = Vec::new(alloc);
     while let Some(protocol) = items.next_item(alloc)? {
-        if protocol.len() > 255 {
+        if protocol.len() > AlpnBuilder::MAX_PROTOCOL_LEN {
             return Err(ScanError::LongItem);
         }
         protocols.push(protocol)?;
@@ -44,8 +46,9 @@ fn read_protocols(alloc: Global, text: &[u8]) -> Result<Vec<Octets>, ScanError>
     Ok(protocols)
 }
 
-/// The value of protocols. Refused, as `LongValue`, exactly where it has more than 65,535 octets, else when allocation
-/// fails alone.
+/// The value of protocols.
+///
+/// `LongValue`: it would have more than 65,535 octets. `NoMemory`: allocation failed.
 fn build_alpn(alloc: Global, protocols: &[Octets]) -> Result<Alpn, ScanError>
     requires { Each (λ protocol. IsProtocolLength (length protocol)) protocols.now }
     ensures { Answers (λ value. value) result (short_value (values.Alpn protocols.now)) }

@@ -16,24 +16,25 @@ use std::collections::BTreeSet;
 use text_spec::ScanError;
 use wire_base::{Ipv4Addr, Ipv6Addr};
 
-/// What is made of the items of a list, and takes the next item.
+/// What the items of a list are collected in.
 pub(crate) trait TakesItems: Sized + Drop {
     /// What contracts see of it.
     ghost Seen: { Type 0 };
 
-    /// It, as contracts see it.
+    /// The collection, as contracts see it.
     ghost seen: { Self → Seen };
 
-    /// What an item's text makes of it, or the text's fault.
+    /// The collection with an item's text added, or the text's fault.
     ghost adds: { Seen → List ℕ → Result Seen ScanError };
 
-    /// Adds the item that a text is. It is let go where the text is refused, or when allocation fails.
+    /// Adds the item that a text is. The collection is dropped where the text has a fault, or allocation fails.
     fn add(self, text: &[u8]) -> Result<Self, ScanError>
         ensures { Answers seen result (adds (seen self) text.now) };
 }
 
-/// What the items of a text, which has octets, make of a list in turn. Refused by the first fault, or when allocation
-/// fails.
+/// Adds the items of a text in turn. Fails with the first fault, or with `NoMemory`.
+///
+/// `MissingValue`: the text has no octets.
 pub(crate) fn read_list<L: TakesItems>(start: L, text: &[u8]) -> Result<L, ScanError>
     ensures { Answers L.seen result (read_list L.adds (L.seen start) text.now) }
 {
@@ -41,7 +42,7 @@ pub(crate) fn read_list<L: TakesItems>(start: L, text: &[u8]) -> Result<L, ScanE
     add_items(start, text)
 }
 
-/// What the items of a text make of a list in turn. Refused by the first fault, or when allocation fails.
+/// Adds the items of a text in turn. Fails with the first fault, or with `NoMemory`.
 fn add_items<L: TakesItems>(start: L, text: &[u8]) -> Result<L, ScanError>
     ensures { Answers L.seen result (add_items L.adds (L.seen start) (comma_items text.now)) }
 {
@@ -53,7 +54,7 @@ fn add_items<L: TakesItems>(start: L, text: &[u8]) -> Result<L, ScanError>
     Ok(list)
 }
 
-/// Addresses in order. `BadAddress`: a text is no address.
+/// Addresses in the order of the text. `BadAddress`: an item is no address.
 impl TakesItems for Vec<Ipv4Addr> {
     ghost Seen = { List (List ℕ) };
 
@@ -68,7 +69,7 @@ impl TakesItems for Vec<Ipv4Addr> {
     }
 }
 
-/// Addresses in order. `BadAddress`: a text is no address.
+/// Addresses in the order of the text. `BadAddress`: an item is no address.
 impl TakesItems for Vec<Ipv6Addr> {
     ghost Seen = { List (List ℕ) };
 
@@ -83,8 +84,8 @@ impl TakesItems for Vec<Ipv6Addr> {
     }
 }
 
-/// Mandatory keys, which ascend. `UnknownKey`: a text names no key. `KeyZeroInMandatory`: it names `mandatory`.
-/// `DuplicateItem`: it names a key that is there.
+/// Mandatory keys, in ascending order. `UnknownKey`: an item is no key. `KeyZeroInMandatory`: it is `mandatory` itself.
+/// `DuplicateItem`: the key is there already.
 impl TakesItems for BTreeSet<u16> {
     ghost Seen = { List ℕ };
 
@@ -105,7 +106,7 @@ impl TakesItems for BTreeSet<u16> {
     }
 }
 
-/// Groups in order, and the same groups as a set, which tells whether a group is new.
+/// Groups in the order of the text, and the same groups as a set, which tells whether a group is new.
 #[derive(Drop)]
 pub(crate) struct Groups {
     numbers: Vec<u16>,
@@ -115,7 +116,7 @@ pub(crate) struct Groups {
 }
 
 impl Groups {
-    /// No groups. Takes no memory.
+    /// No groups. No memory is taken.
     pub(crate) fn new(alloc: Global) -> Groups
         ensures { result.numbers.items ≡ [] }
     {
@@ -134,7 +135,7 @@ impl Groups {
     }
 }
 
-/// `BadNumber`: a text is no number of at most 65,535. `DuplicateItem`: it is one that is there.
+/// `BadNumber`: an item is no number up to 65,535. `DuplicateItem`: the group is there already.
 impl TakesItems for Groups {
     ghost Seen = { List ℕ };
 

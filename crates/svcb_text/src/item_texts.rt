@@ -1,4 +1,4 @@
-//! The text of an item of a list: where it ends, and what it has escaped.
+//! The text of an item of a list: where it ends, and its escapes.
 
 ghost use Rattle.std.specs.Prelude.{◌≡◌, ◌≢◌, ◌≤◌, ◌∷◌, Err, length, IfOk, IfErr, option_map};
 ghost use Rattle.svcb_spec.specs.ListTexts.{comma_pieces, plain_item, onto_item, read_item, is_escaped_in_item};
@@ -22,7 +22,9 @@ pub(crate) fn split_at_comma(text: &[u8]) -> (&[u8], Option<&[u8]>)
     (text, None)
 }
 
-/// Tests an item in which nothing may be escaped. `BadListEscape`: it has a backslash. `EmptyItem`: it has no octets.
+/// Tests an item in which nothing may be escaped.
+///
+/// `BadListEscape`: it has a backslash. `EmptyItem`: it has no octets.
 pub(crate) fn check_plain(item: &[u8]) -> Result<(), ScanError>
     ensures { let_through item.now result ≡ plain_item item.now }
 {
@@ -38,8 +40,8 @@ pub(crate) fn check_plain(item: &[u8]) -> Result<(), ScanError>
 /// The item that a text begins with, without its escapes, and what stands behind the comma that ends it, where there is
 /// one.
 ///
-/// `BadListEscape`: the item has a backslash that is followed by neither a comma nor a backslash. `NoMemory`: the memory
-/// for the item isn't there.
+/// `BadListEscape`: the item has a backslash that is followed by neither a comma nor a backslash. `NoMemory`:
+/// allocation failed.
 pub(crate) fn read_item(alloc: Global, text: &[u8]) -> Result<(Octets, Option<&[u8]>), ScanError>
     ensures { Answers seen_read result (read_item text.now) }
 {
@@ -56,8 +58,9 @@ pub(crate) fn read_item(alloc: Global, text: &[u8]) -> Result<(Octets, Option<&[
     Ok((Octets::from_vec(item), None))
 }
 
-/// The octet that stands or is escaped at the front of an item's text, and the text behind it. Refused, as
-/// `BadListEscape`, exactly for a backslash that is followed by neither a comma nor a backslash.
+/// The octet that an item's text begins with, which may be escaped, and the text behind it.
+///
+/// `BadListEscape`: it is a backslash that is followed by neither a comma nor a backslash.
 fn take_octet(c: u8, others: &[u8]) -> Result<(u8, &[u8]), ScanError>
     requires { c ≢ 44 }
     ensures reads { IfOk result (λ front. read_item (c ∷ others.now)

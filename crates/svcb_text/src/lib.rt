@@ -6,7 +6,6 @@ mod all_values;
 mod all_values_ref;
 mod all_values_scan;
 mod alpn;
-mod base64_text;
 mod conversions;
 mod item_loop;
 mod item_texts;

@@ -1,4 +1,4 @@
-//! Values that are lists, read from text.
+//! Values that are lists in which nothing may be escaped, scanned from text.
 
 ghost use Rattle.std.specs.Prelude.{◌≡◌, ◌==◌, [], IfOk, length};
 ghost use Rattle.svcb_spec.specs.Values as values;

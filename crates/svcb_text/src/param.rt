@@ -18,7 +18,7 @@ use text_spec::ScanError;
 /// behind `key` and a number stand any octets, as `key1=h2`.
 ///
 /// `EmptyParam`: the token has no octets. `BadKeyChar`: its key has an octet other than `a` to `z`, `0` to `9` and `-`.
-/// `UnknownKey`: it names no key. Else by the first fault of the value's text, or when allocation fails.
+/// `UnknownKey`: it names no key. Or the first fault of the value's text. `NoMemory`: allocation failed.
 pub fn scan_param(alloc: Global, token: &[u8]) -> Result<AllValues, ScanError>
     ensures { Answers value_of result (spells token.now) }
 {

@@ -1,4 +1,4 @@
-//! Values that are no lists, read from text: markers, ports, octets and values without a type.
+//! Values that are no lists, scanned from text: markers, ports, octets and values without a type.
 
 ghost use Rattle.std.specs.Prelude.{◌≡◌, ◌==◌, true, length};
 ghost use Rattle.svcb_spec.specs.Values as values;
@@ -6,14 +6,13 @@ ghost use Rattle.text_spec.specs.Scanning.{Answers};
 ghost use Rattle.svcb_text.specs.Items.{let_through};
 ghost use Rattle.svcb_spec.specs.ValueTexts.{some_text, no_text, utf8_text, port_value, ech_value, dohpath_value, opaque_value};
 
-use crate::base64_text::decode_base64;
 use crate::scan_value::ScanSvcParamValue;
 use crate::value_faults::{check_value_len, or_fault};
 use registry::{Integer, SvcParamKey};
 use std::alloc::Global;
 use std::str;
 use svcb_value::{DohPath, Ech, NoDefaultAlpn, Ohttp, Port, UnknownSvcParam};
-use text_spec::ScanError;
+use text_spec::{ScanError, decode_base64};
 use wire_base::Octets;
 
 /// Tests a text that is to have octets. `MissingValue`: it has none.

@@ -8,7 +8,9 @@ use registry::{BuildValueError, LongSvcParam};
 use svcb_list::BuildAlpnError;
 use text_spec::ScanError;
 
-/// Tests the length of a value in octets. `LongValue`: it is over 65,535.
+/// Tests the length of a value in octets.
+///
+/// `LongValue`: it is over 65,535.
 pub(crate) fn check_value_len(len: usize) -> Result<(), ScanError>
     ensures ok { OnOk result (len ≤ 65535) }
     ensures long { IfErr result (λ fault. (fault ≡ ScanError.LongValue) × (65535 < len)) }
@@ -19,7 +21,8 @@ pub(crate) fn check_value_len(len: usize) -> Result<(), ScanError>
     }
 }
 
-/// The fault of a text whose value was not made: a failed allocation stays, and every other cause is the value's length.
+/// The fault of a text whose value was not made: a failed allocation stays, and every other cause is the value's
+/// length.
 pub(crate) fn value_fault(error: BuildValueError) -> ScanError
     ensures { result ≡ scan_fault_of error }
 {
@@ -29,7 +32,7 @@ pub(crate) fn value_fault(error: BuildValueError) -> ScanError
     }
 }
 
-/// A value that was made, or why the text is refused.
+/// The value that was made, or the fault of the text.
 pub(crate) fn or_fault<V>(made: Result<V, BuildValueError>) -> Result<V, ScanError>
     ensures { result ≡ result_map_both (λ value. value) scan_fault_of made }
 {

@@ -11,8 +11,10 @@ use std::marker::Model;
 use text_spec::ScanError;
 use wire_base::Octets;
 
-/// The items in the text of a value, between commas (RFC 9460, appendix A.1). Contracts see the text that is left, which
-/// is none behind the last item.
+/// The items in the text of a value, between its commas (RFC 9460, appendix A.1).
+///
+/// A text without octets has no items; a comma at the end is followed by one more item, which is empty and refused.
+/// Contracts see the text that is left, which is none behind the last item.
 #[derive(Clone, Debug, Drop)]
 pub struct SvcParamValueScanIter<'a> {
     left: Option<&'a [u8]>,
@@ -27,7 +29,7 @@ impl<'a> Model for SvcParamValueScanIter<'a> {
 }
 
 impl<'a> SvcParamValueScanIter<'a> {
-    /// The items in the octets of a text. No octets have no items.
+    /// The items in the octets of a text. No memory is taken.
     pub fn from_slice(octs: &'a [u8]) -> SvcParamValueScanIter<'a>
         ensures text { result ≡ text_of_list octs.now }
         ensures items { items_left result ≡ comma_items octs.now }
@@ -37,9 +39,9 @@ impl<'a> SvcParamValueScanIter<'a> {
         }
     }
 
-    /// The next item, in which nothing may be escaped. None exactly where no item is left. Takes no memory.
+    /// The next item, in which nothing may be escaped. `None` exactly where no item is left. No memory is taken.
     ///
-    /// `BadListEscape`: the item has a backslash. `EmptyItem`: it has no octets. After a refusal the item is still the next.
+    /// `BadListEscape`: the item has a backslash. `EmptyItem`: it has no octets. The item is then still the next.
     pub fn next_no_escapes(&mut self) -> Result<Option<&'a [u8]>, ScanError>
         ensures item { seen_item result ≡ next_plain (items_left self.old) }
         ensures ok { OnOk result (items_left self.new ≡ other_items (items_left self.old)) }
@@ -53,11 +55,11 @@ impl<'a> SvcParamValueScanIter<'a> {
         self.left = rest;
         Ok(Some(item))
     }
-    /// The next item without its escapes. None exactly where no item is left. A comma at the end is followed by one more
-    /// item, which has no octets.
+
+    /// The next item without its escapes. `None` exactly where no item is left.
     ///
-    /// `BadListEscape`: a backslash is followed by neither a comma nor a backslash. `EmptyItem`: the item has no octets.
-    /// `NoMemory`: the memory for the item isn't there. After a refusal the item is still the next.
+    /// `BadListEscape`: a backslash is followed by neither a comma nor a backslash. `EmptyItem`: the item has no
+    /// octets. `NoMemory`: allocation failed. The item is then still the next.
     pub fn next_item(&mut self, alloc: Global) -> Result<Option<Octets>, ScanError>
         ensures item { Answers (λ item. item) result (item_read (next_read self.old)) }
         ensures ok { OnOk result (self.new ≡ text_behind (next_read self.old)) }

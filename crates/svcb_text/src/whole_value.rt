@@ -1,4 +1,4 @@
-//! Octets that are wholly a value.
+//! Octets all of which are a value.
 
 ghost use Rattle.std.specs.Prelude.{◌≡◌};
 ghost use Rattle.svcb_spec.specs.ReadingValues.{whole_taken};
@@ -7,10 +7,11 @@ ghost use Rattle.svcb_text.specs.WholeValues.{seen_answer, read_wholly};
 use registry::{ParseSvcParamValue, SvcParamKey};
 use wire_base::{ParseError, Parser};
 
-/// The value of a type that the octets under a key wholly are. None exactly where the type does not take the key. No
-/// memory is taken.
+/// The value of a type that all octets under a key are. `None` exactly where the type does not take the key. No memory
+/// is taken.
 ///
-/// The first fault of the octets refuses them, as `ShortInput` or `Form`; octets left behind a value are `Form`.
+/// `ShortInput`, `Form`: the first fault of the octets, as the type's `reads` says it. `Form` also where octets are
+/// left behind the value.
 pub fn parse_wholly<'a, V: ParseSvcParamValue<'a>>(
     key: SvcParamKey,
     octets: &'a [u8],

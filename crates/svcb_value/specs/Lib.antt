@@ -1,6 +1,5 @@
 pub mod Parameters
 pub mod UnknownView
 pub mod Lending
-pub mod Building
 pub mod Printing
 pub mod PrintingLaws

@@ -1,9 +1,9 @@
 //! Paths of DNS over HTTPS.
 
-ghost use Rattle.std.specs.Prelude.{◌≡◌, ◌<◌, ◌≤◌, codes, length, IfOk, IfErr, OnOk, refl};
+ghost use Rattle.std.specs.Prelude.{◌≡◌, ◌<◌, codes, length, IfOk, refl};
 ghost use Rattle.svcb_spec.specs.Values as values;
+ghost use Rattle.svcb_spec.specs.BuildingValues.{IsBuilt};
 ghost use Rattle.svcb_spec.specs.PrintedValues.{utf8_or_printed};
-ghost use Rattle.svcb_value.specs.Building.{IsCause};
 ghost use Rattle.svcb_value.specs.PrintingLaws.{with_utf8};
 
 use crate::opaque::{OpaqueType, OpaqueValue};
@@ -13,8 +13,9 @@ use std::alloc::Global;
 use std::{fmt, str};
 use wire_base::{Octets, PrintedOctets};
 
-/// The type of `dohpath` (RFC 9461, section 5): a URI template in UTF-8, which is its text. Octets that are no UTF-8 are
-/// values too; their text is that of [`PrintedOctets`].
+/// The type of `dohpath` (RFC 9461, section 5), the path of a DNS over HTTPS server: a URI template in UTF-8.
+///
+/// The text of a value is the template. Octets that are not UTF-8 are values too; [`PrintedOctets`] prints them.
 #[derive(Debug)]
 pub struct DohPathType;
 
@@ -47,19 +48,20 @@ impl OpaqueType for DohPathType {
     }
 }
 
-/// The value of `dohpath`.
+/// The value of `dohpath`: at most 65,535 octets, which are a URI template if they are UTF-8.
 pub type DohPath = OpaqueValue<DohPathType>;
 
-/// A view of the value of `dohpath`.
+/// A view of the value of `dohpath`, which borrows the octets.
 pub type DohPathRef<'a> = OpaqueRef<'a, DohPathType>;
 
 impl OpaqueValue<DohPathType> {
-    /// The value of a text. Refused as `LongSvcParam` exactly where the text has more than 65,535 octets, before memory
-    /// is taken, and else only when allocation fails.
+    /// The value of a text.
+    ///
+    /// `LongSvcParam`: the text has more than 65,535 octets. It is refused before memory is taken. `NoMemory`:
+    /// allocation failed.
     pub fn from_text(alloc: Global, text: &str) -> Result<DohPath, BuildValueError>
         ensures value { IfOk result (λ value. value ≡ values.DohPath text.now) }
-        ensures ok { OnOk result (length text.now ≤ 65535) }
-        ensures cause { IfErr result (IsCause (length text.now)) }
+        ensures answer { IsBuilt result (length text.now) }
     {
         LongSvcParam::check_len(text.len())?;
         let octets = Octets::from_slice(alloc, text.as_bytes())?;

@@ -12,8 +12,10 @@ use base64::engine::general_purpose::STANDARD;
 use registry::SvcParamKey;
 use std::fmt;
 
-/// The type of `ech` (RFC 9460, section 14.3.2, key 5): an ECHConfigList, whose octets are not looked into. Its text is
-/// base64 with padding (RFC 4648, section 4).
+/// The type of `ech` (key 5 of RFC 9460, section 14.3.2): the configurations with which a client encrypts its
+/// ClientHello, an ECHConfigList.
+///
+/// Its octets are not interpreted. Their text is base64 with padding (RFC 4648, section 4).
 #[derive(Debug)]
 pub struct EchType;
 
@@ -43,8 +45,8 @@ impl OpaqueType for EchType {
     }
 }
 
-/// The value of `ech`.
+/// The value of `ech`: any octets, at most 65,535.
 pub type Ech = OpaqueValue<EchType>;
 
-/// A view of the value of `ech`.
+/// A view of the value of `ech`, which borrows the octets.
 pub type EchRef<'a> = OpaqueRef<'a, EchType>;

@@ -1,4 +1,4 @@
-//! Values that say something by being there, and have no octets.
+//! Values that say something by their presence, and have no octets.
 
 ghost use Rattle.std.specs.Prelude.{◌≡◌, ℕ, List, [], ◌==◌, Some, Ok, IsOk, OnOk};
 ghost use Rattle.svcb_spec.specs.Values as values;
@@ -8,12 +8,13 @@ use registry::{ComposeSvcParamValue, ParseSvcParamValue, SvcParamKey, SvcParamVa
 use std::fmt;
 use wire_base::{NoMemory, ParseError, Parser};
 
-/// The value of `no-default-alpn` (RFC 9460, section 7.1.1): the protocols of `alpn` are the only ones.
+/// The value of `no-default-alpn` (RFC 9460, section 7.1.1): the server speaks the protocols of `alpn` alone, and not
+/// the default one of the scheme. It has no octets.
 #[derive(Clone, Copy, Debug, PartialEq, Eq, Hash)]
 pub struct NoDefaultAlpn;
 
 impl NoDefaultAlpn {
-    /// The value, which is never refused. It has no octets: all that remain are left.
+    /// The value, which is never refused. It takes no octets: the parser stays.
     pub fn parse(parser: &mut Parser<'_>) -> Result<NoDefaultAlpn, ParseError>
         ensures always { IsOk result }
         ensures stays { parser.new ≡ parser.old }
@@ -74,12 +75,12 @@ impl fmt::Display for NoDefaultAlpn {
     }
 }
 
-/// The value of `ohttp` (RFC 9540, section 4): the service is reached by Oblivious HTTP.
+/// The value of `ohttp` (RFC 9540, section 4): the service can be reached by Oblivious HTTP. It has no octets.
 #[derive(Clone, Copy, Debug, PartialEq, Eq, Hash)]
 pub struct Ohttp;
 
 impl Ohttp {
-    /// The value, which is never refused. It has no octets: all that remain are left.
+    /// The value, which is never refused. It takes no octets: the parser stays.
     pub fn parse(parser: &mut Parser<'_>) -> Result<Ohttp, ParseError>
         ensures always { IsOk result }
         ensures stays { parser.new ≡ parser.old }

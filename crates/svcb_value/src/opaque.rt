@@ -1,4 +1,4 @@
-//! Values whose octets are not looked into.
+//! Values whose octets are not interpreted.
 
 ghost use Rattle.std.specs.Prelude.{◌≡◌, ℕ, List, ◌≤◌, ◌<◌, Some, length, IfOk, OnOk, OnErr};
 ghost use Rattle.std.specs.Fmt.{WritesOnOk};
@@ -17,7 +17,11 @@ use std::fmt;
 use std::marker::{Model, PhantomData};
 use wire_base::{NoMemory, Octets, ParseError, Parser};
 
-/// A type of values whose octets are not looked into: any octets are a value, at most 65,535.
+/// A type of values whose octets are not interpreted: any octets are a value, at most 65,535.
+///
+/// An implementor names the key and writes the text of octets. [`OpaqueValue`] and [`OpaqueRef`] do the rest: they
+/// read, copy, compose and print. The ghost members `belongs`, `encodes`, `has_items` and `prints` are the proofs that
+/// the value and the text of this type are those that `key`, `value` and `text` say.
 pub trait OpaqueType {
     /// The key of the type.
     ghost key: { ℕ };
@@ -35,7 +39,7 @@ pub trait OpaqueType {
     fn key() -> SvcParamKey
         ensures { result ≡ key };
 
-    /// Writes the text of octets. Refused only where `f` refuses.
+    /// Writes the text of octets. Fails only where `f` does.
     fn write_text<W: fmt::Write>(octets: &[u8], f: &mut fmt::Formatter<W>) -> fmt::Result
         ensures { WritesOnOk W.Write.write_str_gives f.old result (text octets.now) f.new };
 
@@ -53,7 +57,9 @@ pub trait OpaqueType {
         → value_printed (value octets) ≡ key_and_text (key_name key) octets (text octets) };
 }
 
-/// A value whose octets are not looked into. Equality looks at the octets.
+/// A value whose octets are not interpreted: it owns them, at most 65,535. Equality compares the octets.
+///
+/// Contracts see the value, as [`OpaqueType`] has it.
 #[derive_where(PartialEq, Eq, Hash)]
 #[derive(Drop)]
 pub struct OpaqueValue<T: OpaqueType> {
@@ -81,7 +87,9 @@ impl<T: OpaqueType> Model for OpaqueValue<T> {
 }
 
 impl<T: OpaqueType> OpaqueValue<T> {
-    /// The value of octets. Refused, as `LongSvcParam`, exactly over 65,535 octets; they are then dropped.
+    /// The value of octets.
+    ///
+    /// `LongSvcParam`: there are more than 65,535 octets. They are then dropped.
     pub fn from_octets(octets: Octets) -> Result<OpaqueValue<T>, LongSvcParam>
         ensures value { IfOk result (λ value. value ≡ T.value octets) }
         ensures ok { OnOk result (length octets ≤ 65535) }
@@ -94,8 +102,9 @@ impl<T: OpaqueType> OpaqueValue<T> {
         })
     }
 
-    /// The value of all octets that remain. Refused as `Form` exactly where more than 65,535 remain, else when
-    /// allocation fails alone; the parser then stays.
+    /// The value of all octets that remain.
+    ///
+    /// `Form`: more than 65,535 octets remain. `NoMemory`: allocation failed. The parser then stays.
     pub fn parse(alloc: Global, parser: &mut Parser<'_>) -> Result<OpaqueValue<T>, ParseError>
         ensures answer { GivesCopy (taking_all (octets_left parser.old)) result
             (whole_value long_fault T.value (octets_left parser.old)) }
@@ -126,7 +135,7 @@ impl<T: OpaqueType> OpaqueValue<T> {
         self.octets.as_slice()
     }
 
-    /// A view.
+    /// A view of the value.
     pub fn for_ref(&self) -> OpaqueRef<'_, T>
         ensures { T.value result.slice.now ≡ self.now }
     {

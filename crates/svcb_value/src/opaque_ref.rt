@@ -1,6 +1,6 @@
-//! Views of values whose octets are not looked into.
+//! Views of values whose octets are not interpreted.
 
-ghost use Rattle.std.specs.Prelude.{◌≡◌, ◌==◌, ℕ, List, ◌≤◌, ◌<◌, Some, length, IfOk, OnOk, OnErr, ⊤};
+ghost use Rattle.std.specs.Prelude.{◌≡◌, ◌==◌, ℕ, List, ◌+◌, ◌≤◌, ◌<◌, Some, length, IfOk, OnOk, OnErr, ⊤};
 ghost use Rattle.svcb_spec.specs.Values.{Value, key_of, encode, IsValue};
 ghost use Rattle.svcb_spec.specs.ReadingValues.{taking_all, whole_value, long_fault};
 ghost use Rattle.wire_base.specs.Faults.{Gives};
@@ -17,7 +17,7 @@ use std::fmt;
 use std::marker::PhantomData;
 use wire_base::{NoMemory, Octets, ParseError, Parser};
 
-/// A view of a value whose octets are not looked into. Equality looks at the octets.
+/// A view of a value whose octets are not interpreted: it borrows them, at most 65,535. Equality compares the octets.
 #[derive_where(PartialEq, Eq, Hash)]
 pub struct OpaqueRef<'a, T: OpaqueType> {
     /// The octets, at most 65,535.
@@ -41,7 +41,9 @@ impl<'a, T: OpaqueType> Clone for OpaqueRef<'a, T> {
 }
 
 impl<'a, T: OpaqueType> OpaqueRef<'a, T> {
-    /// The value of octets. Refused, as `LongSvcParam`, exactly over 65,535 octets.
+    /// The view of octets.
+    ///
+    /// `LongSvcParam`: there are more than 65,535 octets.
     pub fn from_slice(slice: &'a [u8]) -> Result<OpaqueRef<'a, T>, LongSvcParam>
         ensures value { IfOk result (λ view. view.slice.now ≡ slice.now) }
         ensures ok { OnOk result (length slice.now ≤ 65535) }
@@ -54,12 +56,15 @@ impl<'a, T: OpaqueType> OpaqueRef<'a, T> {
         })
     }
 
-    /// The value of all octets that remain. Refused as `Form` exactly where more than 65,535 remain; the parser then
-    /// stays.
+    /// The view of all octets that remain.
+    ///
+    /// `Form`: more than 65,535 octets remain. The parser then stays.
     pub fn parse(parser: &mut Parser<'a>) -> Result<OpaqueRef<'a, T>, ParseError>
-        ensures answer { Gives (λ view. taking_all (octets_left parser.old) (T.value view.slice.now))
-            result (whole_value long_fault T.value (octets_left parser.old)) }
+        ensures answer {
+            Gives (λ view. taking_all (octets_left parser.old) (T.value view.slice.now)) result
+            (whole_value long_fault T.value (octets_left parser.old)) }
         ensures takes { TakesAll parser.old parser.new result }
+        ensures len { parser.old.pos + length (octets_left parser.old) ≡ parser.old.end }
     {
         let slice = parser.remaining_octets();
         LongSvcParam::check_len(slice.len())?;

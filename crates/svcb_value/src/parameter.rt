@@ -8,10 +8,12 @@ ghost use Rattle.svcb_value.specs.Parameters.{take_param, BeginsParameter};
 
 use wire_base::{NoMemory, Parser, ShortInput};
 
-/// The key and the value of the parameter that octets begin with, and the octets behind it. Refused exactly where one
-/// of the parameter's parts runs past the end.
+/// The key and the value of the parameter that octets begin with, and the octets behind it.
+///
+/// `ShortInput`: the key, the length or the value runs past the end.
 pub fn split_param(octets: &[u8]) -> Result<(u16, &[u8], &[u8]), ShortInput>
-    ensures begins { IfOk result (λ parts. BeginsParameter octets.now parts.0 parts.1.now parts.2.now) }
+    ensures begins { IfOk result (λ parts.
+        BeginsParameter octets.now parts.0 parts.1.now parts.2.now) }
     ensures short { OnErr result (take_param octets.now ≡ Err Short) }
 {
     let mut parser = Parser::from_ref(octets);
@@ -45,7 +47,7 @@ pub fn put_param(target: &mut Vec<u8>, key: u16, value: &[u8])
     target.extend_from_slice(value).unwrap();
 }
 
-/// Appends a parameter, for which room is made. Fails only with `NoMemory`; the target then stays.
+/// Makes room for a parameter and appends it. Fails only with `NoMemory`; the target then stays.
 pub(crate) fn compose_param(key: u16, value: &[u8], target: &mut Vec<u8>) -> Result<(), NoMemory>
     requires fits { length value.now < 65536 }
     ensures appends { AppendsOctets target.old.items target.new.items

@@ -14,7 +14,8 @@ use std::fmt;
 use std::marker::Model;
 use wire_base::{NoMemory, ParseError, Parser};
 
-/// The value of `port` (RFC 9460, section 7.2): the TCP or UDP port to use. Ports are ordered by their numbers.
+/// The value of `port` (RFC 9460, section 7.2): the TCP or UDP port at which the service is reached, in two octets.
+/// Ports are ordered by their numbers.
 #[derive(Clone, Copy, Debug, PartialEq, Eq, PartialOrd, Ord, Hash)]
 pub struct Port(u16);
 
@@ -46,8 +47,9 @@ impl Port {
         self.0
     }
 
-    /// The port in the next two octets; what stands behind them is left. Refused, as `ShortInput`, exactly where fewer
-    /// remain; the parser then stays.
+    /// The port in the next two octets. The octets behind them are not read.
+    ///
+    /// `ShortInput`: fewer than two octets remain. The parser then stays.
     #[tactic(auto, using(crate::proofs::Ports::port_rules))]
     pub fn parse(parser: &mut Parser<'_>) -> Result<Port, ParseError>
         ensures answer { Gives (λ port. record { value = values.Port port; len = 2 }) result
@@ -91,9 +93,7 @@ impl ComposeSvcParamValue for Port {
         ensures len { result ≡ length (be2 self.now) }
         ensures value { values.IsValue (values.Port self.now) }
     {
-        // the number has 16 bits
-        let _ = &self.0;
-        2
+        self.0.to_be_bytes().len() as u16
     }
 
     fn compose_value(&self, target: &mut Vec<u8>) -> Result<(), NoMemory> {

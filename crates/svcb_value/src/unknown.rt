@@ -19,8 +19,10 @@ use std::fmt;
 use std::marker::Model;
 use wire_base::{NoMemory, Octets, ParseError, Parser};
 
-/// A service parameter whose value is any octets, at most 65,535. Any key is allowed, also one that has a type.
-/// Equality looks at key and octets.
+/// A service parameter without a type: a key and any octets, at most 65,535 (RFC 9460, section 2.2).
+///
+/// It holds what the library has no type for, and what octets under a key say that are no value of the key's type. So
+/// any key is allowed, also one that has a type. Equality compares key and octets.
 #[derive(Debug, PartialEq, Eq, Hash, Drop)]
 pub struct UnknownSvcParam {
     pub(crate) key: SvcParamKey,
@@ -46,7 +48,9 @@ impl UnknownSvcParam {
     ghost use Rattle.svcb_value.specs.UnknownView.{seen_unknown};
     ghost use Rattle.svcb_value.specs.Lending.{LendsValueOctets};
 
-    /// The value of a key. Refused, as `LongSvcParam`, exactly where it has more than 65,535 octets; it is then dropped.
+    /// The parameter of a key and octets.
+    ///
+    /// `LongSvcParam`: there are more than 65,535 octets. They are then dropped.
     pub fn new(key: SvcParamKey, value: Octets) -> Result<UnknownSvcParam, LongSvcParam>
         ensures param { IfOk result (λ param. param ≡ values.Unknown key value) }
         ensures ok { OnOk result (length value ≤ 65535) }
@@ -56,8 +60,9 @@ impl UnknownSvcParam {
         Ok(UnknownSvcParam { key, value })
     }
 
-    /// All octets that remain, as the value of a key. Refused as `Form` exactly where more than 65,535 remain, else
-    /// only when allocation fails; the parser then stays.
+    /// All octets that remain, as the value of a key.
+    ///
+    /// `Form`: more than 65,535 octets remain. `NoMemory`: allocation failed. The parser then stays.
     pub fn parse(
         alloc: Global,
         key: SvcParamKey,
@@ -74,8 +79,9 @@ impl UnknownSvcParam {
         Ok(UnknownSvcParam { key, value })
     }
 
-    /// The parameter that comes next: its key, the length of its value, and the value. Refused as `ShortInput` exactly
-    /// where one of them runs past the end, else only when allocation fails; the parser then stays.
+    /// The parameter that comes next: its key, the length of its value, and the value.
+    ///
+    /// `ShortInput`: one of them runs past the end. `NoMemory`: allocation failed. The parser then stays.
     pub fn parse_param(
         alloc: Global,
         parser: &mut Parser<'_>,
@@ -119,7 +125,7 @@ impl UnknownSvcParam {
         self.value.as_slice()
     }
 
-    /// The octets for writing. What is written stays; the key and the count of octets are as before.
+    /// The octets for writing. The key and the count of octets stay as they are.
     pub fn as_slice_mut(&mut self) -> &mut [u8]
         ensures* writes_back { sem 𝓛 (LendsValueOctets self.entry result) }
         ensures octets { result.now ≡ values.encode self.old }
@@ -134,7 +140,7 @@ impl UnknownSvcParam {
         &self.value
     }
 
-    /// A view.
+    /// A view of the parameter.
     pub fn for_ref(&self) -> UnknownSvcParamRef<'_>
         ensures { seen_unknown result ≡ self.now }
     {

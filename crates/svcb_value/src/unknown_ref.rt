@@ -12,8 +12,8 @@ use std::fmt;
 use std::hash::{Hash, Hasher};
 use wire_base::{NoMemory, Octets, ParseError, Parser, PrintedOctets};
 
-/// A view of a service parameter whose value is any octets, at most 65,535. Any key is allowed, also one that has a
-/// type. Equality looks at key and octets.
+/// A view of a service parameter without a type: a key, and any octets that it borrows, at most 65,535. Any key is
+/// allowed, also one that has a type. Equality compares key and octets.
 #[derive(Clone, Copy, Debug, PartialEq, Eq, Hash)]
 pub struct UnknownSvcParamRef<'a> {
     pub(crate) key: u16,
@@ -34,8 +34,9 @@ impl<'a> UnknownSvcParamRef<'a> {
     ghost use Rattle.svcb_value.specs.Parameters.{take_param, taking_param, param_len, param_wire};
     ghost use Rattle.svcb_value.specs.UnknownView.{seen_unknown};
 
-    /// The view of a key and octets. Refused, as `LongSvcParam`, exactly over 65,535 octets. A view takes no memory, and
-    /// a push of it onto a builder takes none but that of the builder's own copy.
+    /// The view of a key and octets. It takes no memory; a builder that it is pushed onto makes its own copy.
+    ///
+    /// `LongSvcParam`: there are more than 65,535 octets.
     pub fn new(key: SvcParamKey, slice: &'a [u8]) -> Result<UnknownSvcParamRef<'a>, LongSvcParam>
         ensures view { IfOk result (λ view. seen_unknown view ≡ values.Unknown key slice.now) }
         ensures ok { OnOk result (length slice.now ≤ 65535) }
@@ -48,23 +49,26 @@ impl<'a> UnknownSvcParamRef<'a> {
         })
     }
 
-    /// All octets that remain, as the value of a key. Refused as `Form` exactly where more than 65,535 remain; the
-    /// parser then stays.
+    /// All octets that remain, as the value of a key.
+    ///
+    /// `Form`: more than 65,535 octets remain. The parser then stays.
     pub fn parse(
         key: SvcParamKey,
         parser: &mut Parser<'a>,
     ) -> Result<UnknownSvcParamRef<'a>, ParseError>
-        ensures answer { Gives (λ view. taking_all (octets_left parser.old) (seen_unknown view)) result
-            (whole_value long_fault (values.Unknown key) (octets_left parser.old)) }
+        ensures answer { Gives (λ view. taking_all (octets_left parser.old) (seen_unknown view))
+            result (whole_value long_fault (values.Unknown key) (octets_left parser.old)) }
         ensures takes { TakesAll parser.old parser.new result }
+        ensures len { parser.old.pos + length (octets_left parser.old) ≡ parser.old.end }
     {
         let view = UnknownSvcParamRef::new(key, parser.remaining_octets())?;
         parser.advance_to_end();
         Ok(view)
     }
 
-    /// The parameter that comes next: its key, the length of its value, and the value. Refused as `ShortInput` exactly
-    /// where one of them runs past the end; the parser then stays.
+    /// The parameter that comes next: its key, the length of its value, and the value.
+    ///
+    /// `ShortInput`: one of them runs past the end. The parser then stays.
     pub fn parse_param(parser: &mut Parser<'a>) -> Result<UnknownSvcParamRef<'a>, ParseError>
         ensures answer { Gives (λ view. taking_param (seen_unknown view)) result
             (take_param (octets_left parser.old)) }
@@ -169,8 +173,8 @@ impl<'a> ComposeSvcParamValue for UnknownSvcParamRef<'a> {
     }
 }
 
-/// The key, and `=` and the octets as [`PrintedOctets`] has them. Without octets the key stands alone. A key that has a
-/// type is written by its number, as `key3`, since under its name stand values of the type alone.
+/// The key, `=`, and the octets as [`PrintedOctets`] prints them. Without octets the key stands alone. A key that has a
+/// type is printed by its number, as `key3`, since its name is kept for values of the type.
 impl<'a> fmt::Display for UnknownSvcParamRef<'a> {
     ghost use Rattle.std.specs.Prelude.{Some};
     ghost use Rattle.svcb_spec.specs.PrintedValues.{value_printed};

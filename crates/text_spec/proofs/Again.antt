@@ -12,8 +12,8 @@ use Rattle.text_spec.specs.declared.errors.ScanError.TheVariants.{BadSymbol, Bad
 use Rattle.text_spec.specs.declared.lexeme.Lexeme.{Lexeme}
 use Rattle.text_spec.specs.declared.lexeme.Lexeme.TheVariants.{Octet, Quote, Gap}
 use Rattle.text_spec.specs.declared.lexeme.Symbol.{Symbol}
-use Rattle.text_spec.specs.declared.lexeme.Place.{Place}
-use Rattle.text_spec.specs.Lexing.{front_of, end_at, symbol_step, quoted_step, open_step, ended_step, with_front, lexemes_at}
+use Rattle.text_spec.specs.declared.lexeme.LexerState.{LexerState}
+use Rattle.text_spec.specs.Lexing.{step_of, end_at, symbol_step, quoted_step, open_step, ended_step, with_front, lexemes_at}
 use Rattle.text_spec.specs.Pieces.{is_blank, is_quotable, is_stray, is_stray_in_quotes, symbol_of, token_groups, IsSymbol, NoEscape, Piece, Blank, LineEnd, Comment, Opening, Closing, Bare, Quoted, piece_octets, lexemes_of, IsTailRow, IsPieceRow, IsEntry, HasTokens, FaultInQuotes, FaultAt, FaultAfter, HasFault}
 use Rattle.text_spec.specs.Tokens.{start, fault_of, found_in, text_fault, tokens_in}
 use Rattle.text_spec.proofs.Skips.{lexemes_at-end}
@@ -126,25 +126,25 @@ has_tokens text tokens (pieces, row, is, tokens_are) =
 not_zero : (n : ℕ) → 0 < n → (n == 0) ≡ false
 not_zero n positive = grind (arith, nat_tests)
 
-escape-refused : (place : Place) (rest : List ℕ) → NoEscape rest
-    → symbol_step place 92 rest ≡ Err BadEscape
-escape-refused place rest none =
+escape-refused : (state : LexerState) (rest : List ℕ) → NoEscape rest
+    → symbol_step state 92 rest ≡ Err BadEscape
+escape-refused state rest none =
     ap (λ o. option_map_or
-    (λ e. front_of (Octet (record { octet = e.0; escaped = true })) place e.1) o
+    (λ e. step_of (Octet (record { octet = e.0; escaped = true })) state e.1) o
     (Err BadEscape)) (escape_of-none rest none)
 
-stray-refused : (place : Place) (c : ℕ) (rest : List ℕ) → is_stray c ≡ true
-    → open_step place c rest ≡ Err BadSymbol
-stray-refused place c rest stray = grind (arith, nat_tests)
+stray-refused : (state : LexerState) (c : ℕ) (rest : List ℕ) → is_stray c ≡ true
+    → open_step state c rest ≡ Err BadSymbol
+stray-refused state c rest stray = grind (arith, nat_tests)
 
-stray-refused_in_string : (place : Place) (c : ℕ) (rest : List ℕ) → is_stray_in_quotes c ≡ true
-    → quoted_step place c rest ≡ Err BadSymbol
-stray-refused_in_string place c rest stray = grind (arith, nat_tests)
+stray-refused_in_string : (state : LexerState) (c : ℕ) (rest : List ℕ) → is_stray_in_quotes c ≡ true
+    → quoted_step state c rest ≡ Err BadSymbol
+stray-refused_in_string state c rest stray = grind (arith, nat_tests)
 
-trailing-refused : (place : Place) (c : ℕ) (rest : List ℕ)
+trailing-refused : (state : LexerState) (c : ℕ) (rest : List ℕ)
     → not (is_blank c || (c == 10) || (c == 59)) ≡ true
-    → ended_step place c rest ≡ Err TrailingTokens
-trailing-refused place c rest trailing = grind (arith, nat_tests)
+    → ended_step state c rest ≡ Err TrailingTokens
+trailing-refused state c rest trailing = grind (arith, nat_tests)
 
 entry_refused : (rest : List ℕ) (fault : ScanError) (depth : ℕ) → FaultAt rest fault depth
     → lexemes_at (in_entry depth) 0 rest ≡ Err fault

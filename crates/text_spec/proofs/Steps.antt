@@ -11,9 +11,9 @@ use Rattle.text_spec.specs.declared.errors.ScanError.{ScanError}
 use Rattle.text_spec.specs.declared.errors.ScanError.TheVariants.{BadEscape, BadBracket}
 use Rattle.text_spec.specs.declared.lexeme.Lexeme.{Lexeme}
 use Rattle.text_spec.specs.declared.lexeme.Lexeme.TheVariants.{Octet, Quote, Gap}
-use Rattle.text_spec.specs.declared.lexeme.Place.{Place}
-use Rattle.text_spec.specs.declared.lexeme.Front.{Front}
-use Rattle.text_spec.specs.Lexing.{front_of, line_len, escape_of, symbol_step, quoted_step, open_step, ended_step, step, with_front, lexemes_at}
+use Rattle.text_spec.specs.declared.lexeme.LexerState.{LexerState}
+use Rattle.text_spec.specs.declared.lexeme.LexerStep.{LexerStep}
+use Rattle.text_spec.specs.Lexing.{step_of, line_len, escape_of, symbol_step, quoted_step, open_step, ended_step, step, with_front, lexemes_at}
 use Rattle.text_spec.specs.Pieces.{is_blank, is_bare, is_quotable, is_escapable, symbol_of, lexemes_of, piece_octets, Quoted, IsSymbol, IsComment}
 use Rattle.text_spec.proofs.Escapes.{decimal_digits, escape_of-escaped, escape_of-decimal}
 use Rattle.text_spec.proofs.Skips.{lexemes_at-refused, lexemes_at-reads}
@@ -21,21 +21,21 @@ use Rattle.text_spec.proofs.Skips.{lexemes_at-refused, lexemes_at-reads}
 -- ---- places
 
 -- in the entry, within so many brackets
-abbrev pub in_entry : ℕ → Place
+abbrev pub in_entry : ℕ → LexerState
 in_entry depth = record { depth = depth; quoted = false; ended = false }
 
 -- in a quoted string
-abbrev pub in_string : ℕ → Place
+abbrev pub in_string : ℕ → LexerState
 in_string depth = record { depth = depth; quoted = true; ended = false }
 
 -- behind the line's end that ends the entry
-abbrev pub behind : Place
+abbrev pub behind : LexerState
 behind = record { depth = 0; quoted = false; ended = true }
 
-pub entry-reads : (depth c : ℕ) (rest : List ℕ) (front : Front)
+pub entry-reads : (depth c : ℕ) (rest : List ℕ) (front : LexerStep)
     → open_step (in_entry depth) c rest ≡ Ok front
     → lexemes_at (in_entry depth) 0 (c ∷ rest)
-    ≡ with_front front.lexeme (lexemes_at front.place 0 (drop front.len rest))
+    ≡ with_front front.lexeme (lexemes_at front.state 0 (drop front.len rest))
 unfolding step
 entry-reads depth c rest front is = lexemes_at-reads (in_entry depth) c rest front is
 
@@ -46,10 +46,10 @@ unfolding step
 entry-refuses depth c rest fault is =
     lexemes_at-refused (in_entry depth) c rest (c ∷ rest) fault refl (sym is)
 
-pub string-reads : (depth c : ℕ) (rest : List ℕ) (front : Front)
+pub string-reads : (depth c : ℕ) (rest : List ℕ) (front : LexerStep)
     → quoted_step (in_string depth) c rest ≡ Ok front
     → lexemes_at (in_string depth) 0 (c ∷ rest)
-    ≡ with_front front.lexeme (lexemes_at front.place 0 (drop front.len rest))
+    ≡ with_front front.lexeme (lexemes_at front.state 0 (drop front.len rest))
 unfolding step
 string-reads depth c rest front is = lexemes_at-reads (in_string depth) c rest front is
 
@@ -60,9 +60,9 @@ unfolding step
 string-refuses depth c rest fault is =
     lexemes_at-refused (in_string depth) c rest (c ∷ rest) fault refl (sym is)
 
-pub behind-reads : (c : ℕ) (rest : List ℕ) (front : Front) → ended_step behind c rest ≡ Ok front
+pub behind-reads : (c : ℕ) (rest : List ℕ) (front : LexerStep) → ended_step behind c rest ≡ Ok front
     → lexemes_at behind 0 (c ∷ rest)
-    ≡ with_front front.lexeme (lexemes_at front.place 0 (drop front.len rest))
+    ≡ with_front front.lexeme (lexemes_at front.state 0 (drop front.len rest))
 unfolding step
 behind-reads c rest front is = lexemes_at-reads behind c rest front is
 
@@ -77,28 +77,28 @@ behind-refuses c rest fault is = lexemes_at-refused behind c rest (c ∷ rest) f
 abbrev escaped_octet : ℕ → Lexeme
 escaped_octet c = Octet (record { octet = c; escaped = true })
 
-escape-step : (place : Place) (rest : List ℕ) (octet len : ℕ) → escape_of rest ≡ Some (octet, len)
-    → symbol_step place 92 rest ≡ front_of (escaped_octet octet) place len
-escape-step place rest octet len is =
-    ap (λ o. option_map_or (λ e. front_of (escaped_octet e.0) place e.1) o (Err BadEscape)) is
+escape-step : (state : LexerState) (rest : List ℕ) (octet len : ℕ) → escape_of rest ≡ Some (octet, len)
+    → symbol_step state 92 rest ≡ step_of (escaped_octet octet) state len
+escape-step state rest octet len is =
+    ap (λ o. option_map_or (λ e. step_of (escaped_octet e.0) state e.1) o (Err BadEscape)) is
 
-escaped-step : (place : Place) (c : ℕ) (rest : List ℕ) → is_escapable c ≡ true
-    → symbol_step place 92 (c ∷ rest) ≡ front_of (escaped_octet c) place 1
-escaped-step place c rest escapable =
-    escape-step place (c ∷ rest) c 1 (escape_of-escaped c rest escapable)
+escaped-step : (state : LexerState) (c : ℕ) (rest : List ℕ) → is_escapable c ≡ true
+    → symbol_step state 92 (c ∷ rest) ≡ step_of (escaped_octet c) state 1
+escaped-step state c rest escapable =
+    escape-step state (c ∷ rest) c 1 (escape_of-escaped c rest escapable)
 
-decimal-step : (place : Place) (c : ℕ) (rest : List ℕ) → c < 256
-    → symbol_step place 92 (decimal_digits c ++ rest) ≡ front_of (escaped_octet c) place 3
-decimal-step place c rest octet =
-    escape-step place (decimal_digits c ++ rest) c 3 (escape_of-decimal c rest octet)
+decimal-step : (state : LexerState) (c : ℕ) (rest : List ℕ) → c < 256
+    → symbol_step state 92 (decimal_digits c ++ rest) ≡ step_of (escaped_octet c) state 3
+decimal-step state c rest octet =
+    escape-step state (decimal_digits c ++ rest) c 3 (escape_of-decimal c rest octet)
 
-bare-step : (place : Place) (c : ℕ) (rest : List ℕ) → is_bare c ≡ true
-    → open_step place c rest ≡ front_of (Octet (record { octet = c; escaped = false })) place 0
-bare-step place c rest bare = grind (arith, nat_tests)
+bare-step : (state : LexerState) (c : ℕ) (rest : List ℕ) → is_bare c ≡ true
+    → open_step state c rest ≡ step_of (Octet (record { octet = c; escaped = false })) state 0
+bare-step state c rest bare = grind (arith, nat_tests)
 
-quotable-step : (place : Place) (c : ℕ) (rest : List ℕ) → is_quotable c ≡ true
-    → quoted_step place c rest ≡ front_of (Octet (record { octet = c; escaped = false })) place 0
-quotable-step place c rest quotable = grind (arith, nat_tests)
+quotable-step : (state : LexerState) (c : ℕ) (rest : List ℕ) → is_quotable c ≡ true
+    → quoted_step state c rest ≡ step_of (Octet (record { octet = c; escaped = false })) state 0
+quotable-step state c rest quotable = grind (arith, nat_tests)
 
 -- a symbol outside quotes
 pub bare-read : (depth : ℕ) (symbol : Written) (rest : List ℕ) → IsSymbol is_bare symbol
@@ -199,18 +199,18 @@ string-read depth symbols rest quotable =
 
 -- ---- gaps
 
-blank-step : (place : Place) (c : ℕ) (rest : List ℕ) → is_blank c ≡ true
-    → open_step place c rest ≡ front_of Gap place 0
-blank-step place c rest blank = grind (arith, nat_tests)
+blank-step : (state : LexerState) (c : ℕ) (rest : List ℕ) → is_blank c ≡ true
+    → open_step state c rest ≡ step_of Gap state 0
+blank-step state c rest blank = grind (arith, nat_tests)
 
 pub blank-read : (depth c : ℕ) (rest : List ℕ) → is_blank c ≡ true
     → lexemes_at (in_entry depth) 0 (c ∷ rest) ≡ with_front Gap (lexemes_at (in_entry depth) 0 rest)
 blank-read depth c rest blank =
     entry-reads depth c rest _ (blank-step (in_entry depth) c rest blank)
 
-blank-step_behind : (place : Place) (c : ℕ) (rest : List ℕ) → is_blank c ≡ true
-    → ended_step place c rest ≡ front_of Gap place 0
-blank-step_behind place c rest blank = grind (arith, nat_tests)
+blank-step_behind : (state : LexerState) (c : ℕ) (rest : List ℕ) → is_blank c ≡ true
+    → ended_step state c rest ≡ step_of Gap state 0
+blank-step_behind state c rest blank = grind (arith, nat_tests)
 
 pub blank-read_behind : (c : ℕ) (rest : List ℕ) → is_blank c ≡ true
     → lexemes_at behind 0 (c ∷ rest) ≡ with_front Gap (lexemes_at behind 0 rest)
@@ -229,8 +229,8 @@ pub line-read_within : (depth : ℕ) (rest : List ℕ)
     → lexemes_at (in_entry (suc depth)) 0 (10 ∷ rest)
     ≡ with_front Gap (lexemes_at (in_entry (suc depth)) 0 rest)
 line-read_within depth rest =
-    entry-reads (suc depth) 10 rest (record { lexeme = Gap; place = in_entry (suc depth); len = 0 })
-    (ap (λ ended. front_of Gap (record { depth = suc depth; quoted = false; ended = ended }) 0)
+    entry-reads (suc depth) 10 rest (record { lexeme = Gap; state = in_entry (suc depth); len = 0 })
+    (ap (λ ended. step_of Gap (record { depth = suc depth; quoted = false; ended = ended }) 0)
     (suc-is_zero depth))
 
 pub line-read_behind : (rest : List ℕ)
@@ -241,15 +241,15 @@ pub opening-read : (depth : ℕ) (rest : List ℕ)
     → lexemes_at (in_entry depth) 0 (40 ∷ rest)
     ≡ with_front Gap (lexemes_at (in_entry (suc depth)) 0 rest)
 opening-read depth rest =
-    entry-reads depth 40 rest (record { lexeme = Gap; place = in_entry (suc depth); len = 0 })
-    (ap (λ n. front_of Gap (in_entry n) 0) (add-one depth))
+    entry-reads depth 40 rest (record { lexeme = Gap; state = in_entry (suc depth); len = 0 })
+    (ap (λ n. step_of Gap (in_entry n) 0) (add-one depth))
 
 closing-step : (depth : ℕ) (rest : List ℕ)
-    → open_step (in_entry (suc depth)) 41 rest ≡ front_of Gap (in_entry depth) 0
+    → open_step (in_entry (suc depth)) 41 rest ≡ step_of Gap (in_entry depth) 0
 closing-step depth rest =
-    ap (λ none. cond none (Err BadBracket) (front_of Gap (in_entry (suc depth - 1)) 0))
+    ap (λ none. cond none (Err BadBracket) (step_of Gap (in_entry (suc depth - 1)) 0))
     (suc-is_zero depth)
-    ∙ ap (λ n. front_of Gap (in_entry n) 0) (omega arith)
+    ∙ ap (λ n. step_of Gap (in_entry n) 0) (omega arith)
 
 pub closing-read : (depth : ℕ) (rest : List ℕ)
     → lexemes_at (in_entry (suc depth)) 0 (41 ∷ rest)

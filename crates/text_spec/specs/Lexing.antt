@@ -6,8 +6,8 @@ use Rattle.std.specs.Char.{is_ascii_digit}
 use Rattle.std.specs.List.{take_while}
 use Rattle.text_spec.specs.declared.errors.ScanError.{ScanError}
 use Rattle.text_spec.specs.declared.errors.ScanError.TheVariants.{BadSymbol, BadEscape, OpenQuote, BadBracket, TrailingTokens}
-use Rattle.text_spec.specs.declared.lexeme.Place.{Place}
-use Rattle.text_spec.specs.declared.lexeme.Front.{Front}
+use Rattle.text_spec.specs.declared.lexeme.LexerState.{LexerState}
+use Rattle.text_spec.specs.declared.lexeme.LexerStep.{LexerStep}
 use Rattle.text_spec.specs.declared.lexeme.Lexeme.{Lexeme}
 use Rattle.text_spec.specs.declared.lexeme.Lexeme.TheVariants.{Octet, Quote, Gap}
 use Rattle.text_spec.specs.Pieces.{is_blank, is_control, is_stray_in_quotes}
@@ -34,74 +34,74 @@ escape_of (a ∷ rest) =
 abbrev pub line_len : List ℕ → ℕ
 line_len rest = length (take_while (λ c. not (c == 10)) rest)
 
-abbrev pub with_depth : Place → ℕ → Place
-with_depth place depth = record place { depth = depth }
+abbrev pub with_depth : LexerState → ℕ → LexerState
+with_depth state depth = record state { depth = depth }
 
-abbrev pub in_quotes : Place → Bool → Place
-in_quotes place quoted = record place { quoted = quoted }
+abbrev pub in_quotes : LexerState → Bool → LexerState
+in_quotes state quoted = record state { quoted = quoted }
 
--- a lexeme, the place behind it, and how many octets it has behind its first
-abbrev pub front_of : Lexeme → Place → ℕ → Result Front ScanError
-front_of lexeme place len = Ok (record { lexeme = lexeme; place = place; len = len })
+-- a lexeme, the state behind it, and how many octets it has behind its first
+abbrev pub step_of : Lexeme → LexerState → ℕ → Result LexerStep ScanError
+step_of lexeme state len = Ok (record { lexeme = lexeme; state = state; len = len })
 
 -- an octet or an escape of a token
-abbrev pub symbol_step : Place → ℕ → List ℕ → Result Front ScanError
-symbol_step place c rest =
+abbrev pub symbol_step : LexerState → ℕ → List ℕ → Result LexerStep ScanError
+symbol_step state c rest =
     if c == 92
-    then option_map_or (λ e. front_of (Octet (record { octet = e.0; escaped = true })) place e.1)
+    then option_map_or (λ e. step_of (Octet (record { octet = e.0; escaped = true })) state e.1)
     (escape_of rest) (Err BadEscape)
-    else front_of (Octet (record { octet = c; escaped = false })) place 0
+    else step_of (Octet (record { octet = c; escaped = false })) state 0
 
 -- within quotes
-abbrev pub quoted_step : Place → ℕ → List ℕ → Result Front ScanError
-quoted_step place c rest =
-    if c == 34 then front_of Quote (in_quotes place false) 0
+abbrev pub quoted_step : LexerState → ℕ → List ℕ → Result LexerStep ScanError
+quoted_step state c rest =
+    if c == 34 then step_of Quote (in_quotes state false) 0
     else (if is_stray_in_quotes c then Err BadSymbol
-    else symbol_step place c rest)
+    else symbol_step state c rest)
 
 -- behind the line's end that ends the entry
-abbrev pub ended_step : Place → ℕ → List ℕ → Result Front ScanError
-ended_step place c rest =
-    if is_blank c || (c == 10) then front_of Gap place 0
-    else (if c == 59 then front_of Gap place (line_len rest)
+abbrev pub ended_step : LexerState → ℕ → List ℕ → Result LexerStep ScanError
+ended_step state c rest =
+    if is_blank c || (c == 10) then step_of Gap state 0
+    else (if c == 59 then step_of Gap state (line_len rest)
     else Err TrailingTokens)
 
 -- in the entry, outside quotes
-abbrev pub open_step : Place → ℕ → List ℕ → Result Front ScanError
-open_step place c rest =
-    if is_blank c then front_of Gap place 0
-    else (if c == 10 then front_of Gap (record place { ended = place.depth == 0 }) 0
-    else (if c == 59 then front_of Gap place (line_len rest)
-    else (if c == 40 then front_of Gap (with_depth place (place.depth + 1)) 0
+abbrev pub open_step : LexerState → ℕ → List ℕ → Result LexerStep ScanError
+open_step state c rest =
+    if is_blank c then step_of Gap state 0
+    else (if c == 10 then step_of Gap (record state { ended = state.depth == 0 }) 0
+    else (if c == 59 then step_of Gap state (line_len rest)
+    else (if c == 40 then step_of Gap (with_depth state (state.depth + 1)) 0
     else (if c == 41 then
-    (if place.depth == 0 then Err BadBracket
-    else front_of Gap (with_depth place (place.depth - 1)) 0)
-    else (if c == 34 then front_of Quote (in_quotes place true) 0
+    (if state.depth == 0 then Err BadBracket
+    else step_of Gap (with_depth state (state.depth - 1)) 0)
+    else (if c == 34 then step_of Quote (in_quotes state true) 0
     else (if is_control c then Err BadSymbol
-    else symbol_step place c rest))))))
+    else symbol_step state c rest))))))
 
--- what the front of a text means at a place
-unfoldable pub step : Place → ℕ → List ℕ → Result Front ScanError
-step place c rest =
-    if place.quoted then quoted_step place c rest
-    else (if place.ended then ended_step place c rest
-    else open_step place c rest)
+-- what the front of a text means at a state
+unfoldable pub step : LexerState → ℕ → List ℕ → Result LexerStep ScanError
+step state c rest =
+    if state.quoted then quoted_step state c rest
+    else (if state.ended then ended_step state c rest
+    else open_step state c rest)
 
--- the text ends at a place
-abbrev pub end_at : Place → Result (List Lexeme) ScanError
-end_at place =
-    if place.quoted then Err OpenQuote else (if place.depth == 0 then Ok [] else Err BadBracket)
+-- the text ends at a state
+abbrev pub end_at : LexerState → Result (List Lexeme) ScanError
+end_at state =
+    if state.quoted then Err OpenQuote else (if state.depth == 0 then Ok [] else Err BadBracket)
 
 -- a lexeme in front of the lexemes that follow it
 abbrev pub with_front : Lexeme → Result (List Lexeme) ScanError → Result (List Lexeme) ScanError
 with_front front (Ok lexemes) = Ok (front ∷ lexemes)
 with_front front (Err fault) = Err fault
 
--- the lexemes of a text from a place on, behind so many octets that an earlier lexeme has
-unfoldable pub lexemes_at : Place → ℕ → List ℕ → Result (List Lexeme) ScanError
-lexemes_at place skip [] = end_at place
-lexemes_at place (suc skip) (c ∷ rest) = lexemes_at place skip rest
-lexemes_at place zero (c ∷ rest) = elim (step place c rest) [
+-- the lexemes of a text from a state on, behind so many octets that an earlier lexeme has
+unfoldable pub lexemes_at : LexerState → ℕ → List ℕ → Result (List Lexeme) ScanError
+lexemes_at state skip [] = end_at state
+lexemes_at state (suc skip) (c ∷ rest) = lexemes_at state skip rest
+lexemes_at state zero (c ∷ rest) = elim (step state c rest) [
   | Err fault ↦ Err fault
-  | Ok front ↦ with_front front.lexeme (lexemes_at front.place front.len rest)
+  | Ok front ↦ with_front front.lexeme (lexemes_at front.state front.len rest)
 ]

@@ -1,13 +1,14 @@
 pub mod Documents
-pub mod NumberLaws
-pub mod Rows
 pub mod Encodings
+pub mod Faults
 pub mod Laws
 pub mod LayoutLaws
 pub mod Layouts
 pub mod Lexing
 pub mod NameTexts
+pub mod NumberLaws
 pub mod Pieces
+pub mod Rows
 pub mod Scanning
 pub mod Tokens
 pub mod Words

@@ -84,27 +84,27 @@ is_marked tokens place =
 
 -- ---- what a call answers
 
--- A call answers as scanning does, seen by `view`. Only a failed allocation may stand in place of an
--- answer.
+-- A call answers as scanning does, seen by `view`. Only a failed allocation may stand in place of
+-- an answer.
 abbrev pub Answers : {T V : Type 0} → (T → V) → Result T ScanError → Result V ScanError → Type 0
 Answers view (Ok x) outcome = outcome ≡ Ok (view x)
 Answers view (Err errors.NoMemory) outcome = Unit {0}
 Answers view (Err fault) outcome = outcome ≡ Err fault
 
--- The scanner stands where scanning stops. Where memory was wanting, it stands where it began.
+-- The scanner stands where scanning stops. Where an allocation failed, it stands where it began.
 abbrev pub StandsAt : {T : Type 0} → Result T ScanError → ℕ → ℕ → ℕ → Type 0
 StandsAt (Ok x) place before after = after ≡ place
 StandsAt (Err errors.NoMemory) place before after = after ≡ before
 StandsAt (Err fault) place before after = after ≡ place
 
--- The same of a part of a scan: where memory was wanting, it goes no further back than it began.
+-- The same of a part of a scan: where an allocation failed, it goes no further back than it began.
 abbrev pub StandsBehind : {T : Type 0} → Result T ScanError → ℕ → ℕ → ℕ → Type 0
 StandsBehind (Ok x) place before after = after ≡ place
 StandsBehind (Err errors.NoMemory) place before after = before ≤ after
 StandsBehind (Err fault) place before after = after ≡ place
 
 -- A call that scans: its answer, seen by `view`, and where the scanner stands then, are those of
--- `scanning` from where it stood before. The entry's tokens stay. Where memory was wanting, the
+-- `scanning` from where it stood before. The entry's tokens stay. Where an allocation failed, the
 -- scanner stands where it stood.
 pub record Scans {T V : Type 0} (view : T → V) (scanning : Scanning V) (old new : Scan)
     (result : Result T ScanError)
@@ -113,7 +113,7 @@ pub record Scans {T V : Type 0} (view : T → V) (scanning : Scanning V) (old ne
   pub place : StandsAt result (scanning old.tokens old.taken).place old.taken new.taken
   pub tokens : new.tokens ≡ old.tokens
 
--- a call that is a part of a scan: the same, but where memory was wanting, tokens may have been
+-- a call that is a part of a scan: the same, but where an allocation failed, tokens may have been
 -- taken
 pub record ScansPart {T V : Type 0} (view : T → V) (scanning : Scanning V) (old new : Scan)
     (result : Result T ScanError) : Type 0 where

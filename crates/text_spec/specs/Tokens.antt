@@ -2,12 +2,12 @@
 use Rattle.std.specs.Prelude.{ℕ, false, Option, Some, None, Result, Ok, Err, List, []}
 use Rattle.text_spec.specs.declared.errors.ScanError.{ScanError}
 use Rattle.text_spec.specs.declared.lexeme.Symbol.{Symbol}
-use Rattle.text_spec.specs.declared.lexeme.Place.{Place}
+use Rattle.text_spec.specs.declared.lexeme.LexerState.{LexerState}
 use Rattle.text_spec.specs.Lexing.{lexemes_at}
 use Rattle.text_spec.specs.Pieces.{token_groups}
 
 -- where a text begins
-abbrev pub start : Place
+abbrev pub start : LexerState
 start = record { depth = 0; quoted = false; ended = false }
 
 abbrev pub fault_of : {T : Type 0} → Result T ScanError → Option ScanError

@@ -20,9 +20,9 @@ pub enum Lexeme {
     Gap,
 }
 
-/// Where in a text something stands.
+/// What the lexer keeps of the text that it has read.
 #[derive(Clone, Copy, Debug, PartialEq, Eq)]
-pub struct Place {
+pub struct LexerState {
     /// How many brackets are open.
     pub depth: usize,
     /// Whether a quote is open.
@@ -31,13 +31,13 @@ pub struct Place {
     pub ended: bool,
 }
 
-/// What the front of a text means.
+/// One step of the lexer: what stands at the beginning of the text that is left.
 #[derive(Clone, Copy, Debug, PartialEq, Eq)]
-pub struct Front {
-    /// What stands at the front.
+pub struct LexerStep {
+    /// The lexeme that stands there.
     pub lexeme: Lexeme,
-    /// The place behind the lexeme.
-    pub place: Place,
+    /// The state behind the lexeme.
+    pub state: LexerState,
     /// How many octets the lexeme has behind its first.
     pub len: usize,
 }

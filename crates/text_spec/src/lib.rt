@@ -5,10 +5,12 @@
 #![tactic(auto)]
 
 mod display_kind;
+mod encodings;
 mod errors;
 pub mod laws;
 mod lexeme;
 
 pub use display_kind::DisplayKind;
+pub use encodings::{decode_base16, decode_base64};
 pub use errors::ScanError;
-pub use lexeme::{Front, Lexeme, Place, Symbol};
+pub use lexeme::{Lexeme, LexerState, LexerStep, Symbol};

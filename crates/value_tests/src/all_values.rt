@@ -1,5 +1,6 @@
 //! A value of each type, and of a type of another crate, read and composed through the bounds.
 
+use crate::value_copies::is_composed;
 use crate::weight::Weight;
 use registry::{ComposeSvcParamValue, ParseSvcParamValue, SvcParamKey};
 use std::alloc::Global;
@@ -15,16 +16,15 @@ fn read<'a, V: ParseSvcParamValue<'a>>(
 }
 
 /// Whether a value has a key, and is composed to octets.
-fn is_composed<V: ComposeSvcParamValue>(
+fn is_composed_under<V: ComposeSvcParamValue>(
     alloc: Global,
     value: &V,
     key: u16,
     octets: &[u8],
 ) -> Result<bool, NoMemory> {
-    let mut target = Vec::new(alloc);
-    value.compose_value(&mut target)?;
     let len = usize::from(value.compose_len());
-    Ok(u16::from(value.key()) == key && target.as_slice() == octets && len == octets.len())
+    let is_counted = u16::from(value.key()) == key && len == octets.len();
+    Ok(is_counted && is_composed(alloc, value, octets)?)
 }
 
 /// Octets of a value of each type, and of a key without one.
@@ -51,7 +51,7 @@ fn is_kept(alloc: Global, key: u16, octets: &[u8]) -> Result<bool, NoMemory> {
         return Ok(false);
     };
     let value = copied(alloc, &view)?;
-    Ok(value.for_ref() == view && is_composed(alloc, &value, key, octets)?)
+    Ok(value.for_ref() == view && is_composed_under(alloc, &value, key, octets)?)
 }
 
 /// A copy of a value.
@@ -107,8 +107,8 @@ fn octets_behind_a_value_make_it_unknown(rt: HostRuntime) {
 
 #[test]
 fn a_type_of_another_crate_is_a_value(rt: HostRuntime) {
-    assert!(rt; read::<Weight>(65280, b"\x07\x08") == Ok(Some(Weight(7))));
-    assert!(rt; read::<Weight>(65280, b"") == Err(ParseError::ShortInput));
-    assert!(rt; read::<Weight>(3, b"\x07") == Ok(None));
-    assert!(rt; is_composed(rt.alloc(), &Weight(7), 65280, b"\x07") == Ok(true));
+    assert!(rt; read::<Weight>(65280, b"\x01\x07\x08") == Ok(Some(Weight(263))));
+    assert!(rt; read::<Weight>(65280, b"\x01") == Err(ParseError::ShortInput));
+    assert!(rt; read::<Weight>(3, b"\x01\x07") == Ok(None));
+    assert!(rt; is_composed_under(rt.alloc(), &Weight(263), 65280, b"\x01\x07") == Ok(true));
 }

@@ -4,8 +4,8 @@ use std::alloc::{AllocError, Global};
 use svcb_text::scan_param;
 use text_spec::ScanError;
 
-/// A key with `=`, and so many items behind it with commas between them. An item is its number where it is to be new, and
-/// else a text that is the same for each.
+/// A key with `=`, and so many items behind it with commas between them. An item is its number where it is to be new,
+/// and else a text that is the same for each.
 struct List {
     key: &'static str,
     front: &'static str,

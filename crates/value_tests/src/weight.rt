@@ -1,8 +1,8 @@
-//! A value type of another crate.
+//! A value type of another crate, as the pages of the traits have it.
 
-ghost use Rattle.std.specs.Prelude.{◌≡◌, ℕ, ◌==◌, [], ◌∷◌, length, nat_lt, slice_index, Ok, Err, if◌then◌else◌};
+ghost use Rattle.std.specs.Prelude.{◌≡◌, ℕ, ◌==◌, length, nat_lt, Ok, Err, if◌then◌else◌};
 ghost use Rattle.std.specs.Option.{ok_or};
-ghost use Rattle.name_spec.specs.Octets.{Short};
+ghost use Rattle.name_spec.specs.Octets.{Short, be2, number_at};
 ghost use Rattle.registry.specs.Texts.{spelled_number};
 ghost use Rattle.text_spec.specs.declared.errors.ScanError.TheVariants.{BadNumber};
 
@@ -12,9 +12,9 @@ use svcb_text::ScanSvcParamValue;
 use text_spec::ScanError;
 use wire_base::{NoMemory, ParseError, Parser};
 
-/// A value of one octet under the first key for private use.
+/// A number of 16 bits under the first key for private use.
 #[derive(Clone, Copy, PartialEq, Eq)]
-pub(crate) struct Weight(pub(crate) u8);
+pub(crate) struct Weight(pub(crate) u16);
 
 impl SvcParamValue for Weight {
     ghost key_of = { λ _. 65280 };
@@ -31,31 +31,31 @@ impl<'a> ParseSvcParamValue<'a> for Weight {
 
     ghost takes = { λ key. key == 65280 };
 
-    ghost reads = { λ _ octets. if nat_lt (length octets) 1 then Err Short else Ok (record { value = slice_index octets 0; len = 1 }) };
+    ghost reads = { λ _ octets. if nat_lt (length octets) 2 then Err Short
+        else Ok (record { value = number_at octets 0; len = 2 }) };
 
     fn parse_value(
         key: SvcParamKey,
         parser: &mut Parser<'a>,
     ) -> Result<Option<Weight>, ParseError> {
-        let octets = parser.remaining_octets();
         if u16::from(key) != SvcParamKey::PRIVATE_RANGE_BEGIN {
             return Ok(None);
         }
-        parser.advance(1)?;
-        Ok(Some(Weight(octets[0])))
+        let octets = parser.remaining_octets();
+        parser.advance(2)?;
+        Ok(Some(Weight(u16::from_be_bytes([octets[0], octets[1]]))))
     }
 }
 
 impl ComposeSvcParamValue for Weight {
-    ghost octets = { λ weight. weight.0 ∷ [] };
+    ghost octets = { λ weight. be2 weight.0 };
 
     fn compose_len(&self) -> u16 {
-        1
+        2
     }
 
     fn compose_value(&self, target: &mut Vec<u8>) -> Result<(), NoMemory> {
-        target.push(self.0)?;
-        Ok(())
+        self.0.compose(target)
     }
 }
 
@@ -66,7 +66,7 @@ impl ScanSvcParamValue for Weight {
 
     ghost takes = { λ key. key == 65280 };
 
-    ghost spelled = { λ _ text. ok_or (spelled_number 256 text) BadNumber };
+    ghost spelled = { λ _ text. ok_or (spelled_number 65536 text) BadNumber };
 
     fn value_from_scan_octets(
         _alloc: Global,
@@ -76,6 +76,6 @@ impl ScanSvcParamValue for Weight {
         if u16::from(key) != SvcParamKey::PRIVATE_RANGE_BEGIN {
             return Ok(None);
         }
-        Ok(Some(Weight(u8::from_text(octs).ok_or(ScanError::BadNumber)?)))
+        Ok(Some(Weight(u16::from_text(octs).ok_or(ScanError::BadNumber)?)))
     }
 }

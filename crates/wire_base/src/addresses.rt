@@ -69,9 +69,9 @@ impl fmt::Display for Ipv4Addr {
 }
 
 impl Ipv6Addr {
-    /// The address that a text spells (RFC 4291, section 2.2): eight groups of one to four hexadecimal digits with colons
-    /// between them, as `2001:db8:0:0:0:0:0:1`. `::` may stand once for one group of zeros or more, as `2001:db8::1`, and
-    /// the last two groups may be an IPv4 text, as `::ffff:192.0.2.1`. None exactly for other texts.
+    /// The address that a text spells (RFC 4291, section 2.2): eight groups of one to four hexadecimal digits with
+    /// colons between them, as `2001:db8:0:0:0:0:0:1`. `::` may stand once for one group of zeros or more, as
+    /// `2001:db8::1`, and the last two groups may be an IPv4 text, as `::ffff:192.0.2.1`. None exactly for other texts.
     pub fn from_bytes(text: &[u8]) -> Option<Ipv6Addr>
         ensures { result ≡ ipv6_of text.now }
     {
@@ -82,8 +82,8 @@ impl Ipv6Addr {
     }
 }
 
-/// The text of RFC 5952, section 4: groups in lower case with no leading zeros, and `::` for the first of the longest runs
-/// of two groups of zeros or more, as `2001:db8::1`. An IPv4-mapped address ends in an IPv4 text (section 5), as
+/// The text of RFC 5952, section 4: groups in lower case with no leading zeros, and `::` for the first of the longest
+/// runs of two groups of zeros or more, as `2001:db8::1`. An IPv4-mapped address ends in an IPv4 text (section 5), as
 /// `::ffff:192.0.2.1`.
 impl fmt::Display for Ipv6Addr {
     ghost output = { λ address. Some (ipv6_text address) };

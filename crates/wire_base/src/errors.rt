@@ -6,7 +6,7 @@ ghost use Rattle.wire_base.specs.declared.errors.ParseError.TheVariants as error
 use std::alloc::{AllocError, AllocFailed};
 use thiserror::Error;
 
-/// The memory that a call needs isn't there.
+/// An allocation failed.
 #[derive(Clone, Copy, Debug, PartialEq, Eq, Error)]
 #[error("want of memory")]
 pub struct NoMemory;
@@ -30,7 +30,7 @@ pub enum ParseError {
     /// An octet, a length, a pointer or two keys are not allowed, or octets are left over.
     #[error("form error")]
     Form,
-    /// The memory for a copy isn't there. A call on a view never answers it.
+    /// The allocation of a copy failed. A call on a view never fails so.
     #[error("want of memory")]
     NoMemory,
 }

@@ -52,11 +52,11 @@ impl fmt::Debug for ParsedName<'_> {
 
 impl<'a> ParsedName<'a> {
     /// Reads the name at the parser's place and goes behind its own octets, which end after the first pointer or the
-    /// root. No memory is taken, so `NoMemory` is never answered.
+    /// root. It allocates nothing, so it never fails with `NoMemory`.
     ///
-    /// `ShortInput`: the data ends within a length, a label or a pointer, or before the root. `Form`: a length octet of 64
-    /// to 191, a name of more than 255 octets uncompressed, a pointer that doesn't go to an earlier place than its own, or
-    /// a 256th pointer. The first of these along the name decides. The parser then stays.
+    /// `ShortInput`: the data ends within a length, a label or a pointer, or before the root. `Form`: a length octet of
+    /// 64 to 191, a name of more than 255 octets uncompressed, a pointer that doesn't go to an earlier place than its
+    /// own, or a 256th pointer. The first of these along the name decides. The parser is then unchanged.
     #[tactic(auto, using(crate::proofs::OwnedNames::labels_read))]
     pub fn parse(parser: &mut Parser<'a>) -> Result<ParsedName<'a>, ParseError>
         ensures name { Gives (λ name. record { labels = name.labels; next = parser.new.pos })
@@ -82,8 +82,8 @@ impl<'a> ParsedName<'a> {
 
     /// Whether a pointer was followed to read the name, so whether it was compressed on the wire.
     ///
-    /// RFC 9460, section 2.2, forbids that for the target of SVCB and HTTPS data. Such a target is read all the same, as
-    /// robust readers do, and this call is how a reader tells.
+    /// RFC 9460, section 2.2, forbids that for the target of SVCB and HTTPS data. Such a target is read all the same,
+    /// as robust readers do, and this call is how a reader tells.
     pub fn is_compressed(&self) -> bool
         ensures { result ≡ self.now.is_compressed }
     {
@@ -107,7 +107,7 @@ impl<'a> ParsedName<'a> {
 
     /// Appends the uncompressed octets.
     ///
-    /// `NoMemory`: the target has no room for them, and the memory for more isn't there. Its octets then stay.
+    /// `NoMemory`: the target has no room for them and can't grow; its octets are unchanged.
     pub fn compose(&self, target: &mut Vec<u8>) -> Result<(), NoMemory>
         ensures appends { AppendsOctets target.old.items target.new.items
             (name_wire self.now.labels) result }
@@ -124,7 +124,7 @@ impl<'a> ParsedName<'a> {
 
     /// The name by itself, uncompressed, its labels in the same case.
     ///
-    /// `NoMemory`: the memory for the copy isn't there.
+    /// `NoMemory`: an allocation failed.
     #[tactic(auto, using(crate::proofs::OwnedNames::copy_rules))]
     pub fn to_name(&self, alloc: Global) -> Result<Name, NoMemory>
         ensures { IfOk result (λ name. name ≡ self.now.labels) }

@@ -70,8 +70,8 @@ impl Name {
         self.as_slice().eq_ignore_ascii_case(other.as_slice())
     }
 
-    /// Compares names in their canonical order (RFC 4034, section 6.1): label by label from the last, in lower case, and
-    /// the name with fewer labels first.
+    /// Compares names in their canonical order (RFC 4034, section 6.1): label by label from the last, in lower case,
+    /// and the name with fewer labels first.
     #[tactic(auto, using(name_spec::proofs::NameOrders::order_rules))]
     pub fn name_cmp(&self, other: &Name) -> Ordering
         ensures { result ≡ name_cmp self.now other.now }

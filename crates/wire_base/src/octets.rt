@@ -28,7 +28,7 @@ impl Octets {
 
     /// A copy of the octets of a slice.
     ///
-    /// `NoMemory`: the memory for the copy isn't there.
+    /// `NoMemory`: an allocation failed.
     pub fn from_slice(alloc: Global, slice: &[u8]) -> Result<Octets, NoMemory>
         ensures { IfOk result (λ octets. octets ≡ slice.now) }
     {
@@ -83,7 +83,7 @@ impl Octets {
 
     /// A copy.
     ///
-    /// `NoMemory`: the memory for it isn't there.
+    /// `NoMemory`: an allocation failed.
     pub fn try_clone(&self, alloc: Global) -> Result<Octets, NoMemory>
         ensures { IfOk result (λ octets. octets ≡ self.now) }
     {

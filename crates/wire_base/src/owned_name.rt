@@ -73,7 +73,7 @@ fn check_name(octets: &[u8]) -> Result<(), ParseError>
 impl Name {
     /// The root, which has no labels.
     ///
-    /// `NoMemory`: the memory for its octet isn't there.
+    /// `NoMemory`: an allocation failed.
     #[tactic(auto, using(crate::proofs::OwnedNames::root_rules))]
     pub fn root(alloc: Global) -> Result<Name, NoMemory>
         ensures { IfOk result (λ name. name ≡ []) }
@@ -82,12 +82,12 @@ impl Name {
         Ok(Name { octets })
     }
 
-    /// The name that these octets wholly are. They are not copied, and no memory is taken, so `NoMemory` is never
-    /// answered.
+    /// The name that these octets wholly are. They are not copied and nothing is allocated, so it never fails with
+    /// `NoMemory`.
     ///
-    /// `Form`: an octet of 64 or more where a label begins, since nothing is compressed here; this is tested first. Then
-    /// the first along the name decides: `ShortInput` where the octets end within a label or before the root, `Form` where
-    /// its labels with their lengths are more than 254 octets, and `Form` for octets behind the root.
+    /// `Form`: an octet of 64 or more where a label begins, since nothing is compressed here; this is tested first.
+    /// Then the first along the name decides: `ShortInput` where the octets end within a label or before the root,
+    /// `Form` where its labels with their lengths are more than 254 octets, and `Form` for octets behind the root.
     pub fn from_octets(octets: Octets) -> Result<Name, ParseError>
         ensures { Gives (λ name. name) result (name_in octets) }
     {
@@ -141,7 +141,7 @@ impl Name {
 
     /// Appends the octets.
     ///
-    /// `NoMemory`: the target has no room for them, and the memory for more isn't there. Its octets then stay.
+    /// `NoMemory`: the target has no room for them and can't grow; its octets are unchanged.
     pub fn compose(&self, target: &mut Vec<u8>) -> Result<(), NoMemory>
         ensures appends { AppendsOctets target.old.items target.new.items
             (name_wire self.now) result }
@@ -153,7 +153,7 @@ impl Name {
 
     /// A copy.
     ///
-    /// `NoMemory`: the memory for it isn't there.
+    /// `NoMemory`: an allocation failed.
     pub fn try_clone(&self, alloc: Global) -> Result<Name, NoMemory>
         ensures { IfOk result (λ name. name ≡ self.now) }
     {

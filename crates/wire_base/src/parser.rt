@@ -9,8 +9,8 @@ ghost use Rattle.wire_base.specs.Moving.{TakesOctets};
 use crate::errors::ShortInput;
 use std::marker::Model;
 
-/// A place in a message, and the end of the data that is read. Places and lengths are counted in octets. The message may
-/// go on behind that end; nothing there is read, and names may point into all that stands before it.
+/// A place in a message, and the end of the data that is read. Places and lengths are counted in octets. The message
+/// may go on behind that end; nothing there is read, and names may point into all that stands before it.
 #[derive(Debug, Drop)]
 pub struct Parser<'a> {
     message: &'a [u8],
@@ -79,7 +79,7 @@ impl<'a> Parser<'a> {
         self.end - self.pos
     }
 
-    /// All octets before the end of the data. The parser stays.
+    /// All octets before the end of the data. The parser doesn't move.
     pub fn remaining_octets(&self) -> &'a [u8]
         ensures octets { result.now ≡ octets_left self.now }
         ensures len { self.now.pos + length result.now ≡ self.now.end }
@@ -89,7 +89,7 @@ impl<'a> Parser<'a> {
 
     /// Goes to a place in the message, which may be the end of the data.
     ///
-    /// `ShortInput`: the place is past the end of the data. The parser then stays.
+    /// `ShortInput`: the place is past the end of the data. The parser is then unchanged.
     pub fn seek(&mut self, pos: usize) -> Result<(), ShortInput>
         ensures ok { OnOk result (self.new ≡ record self.old { pos = pos }) }
         ensures within { OnOk result (pos ≤ self.old.end) }
@@ -105,7 +105,7 @@ impl<'a> Parser<'a> {
 
     /// Passes over so many octets.
     ///
-    /// `ShortInput`: fewer remain. The parser then stays.
+    /// `ShortInput`: fewer remain. The parser is then unchanged.
     pub fn advance(&mut self, len: usize) -> Result<(), ShortInput>
         ensures takes { TakesOctets self.old self.new len result }
     {
@@ -125,7 +125,7 @@ impl<'a> Parser<'a> {
 
     /// The next octets, borrowed from the message.
     ///
-    /// `ShortInput`: fewer remain. The parser then stays.
+    /// `ShortInput`: fewer remain. The parser is then unchanged.
     pub fn parse_octets(&mut self, len: usize) -> Result<&'a [u8], ShortInput>
         ensures octets { IfOk result (λ octets. octets.now
             ≡ slice_range self.old.message self.old.pos (self.old.pos + len)) }
@@ -139,7 +139,7 @@ impl<'a> Parser<'a> {
 
     /// A parser of the next octets on the same message, whose data ends behind them.
     ///
-    /// `ShortInput`: fewer remain. The parser then stays.
+    /// `ShortInput`: fewer remain. The parser is then unchanged.
     pub fn parse_parser(&mut self, len: usize) -> Result<Parser<'a>, ShortInput>
         ensures parser { IfOk result (λ part. part ≡ record self.old { end = self.old.pos + len }) }
         ensures takes { TakesOctets self.old self.new len result }
@@ -155,7 +155,7 @@ impl<'a> Parser<'a> {
 
     /// The next octet.
     ///
-    /// `ShortInput`: none remains. The parser then stays.
+    /// `ShortInput`: none remains. The parser is then unchanged.
     pub fn parse_u8(&mut self) -> Result<u8, ShortInput>
         ensures number { IfOk result (λ number. number
             ≡ slice_index self.old.message self.old.pos) }
@@ -167,7 +167,7 @@ impl<'a> Parser<'a> {
 
     /// The number in the next two octets, the high one first (RFC 1035, section 2.3.2).
     ///
-    /// `ShortInput`: fewer remain. The parser then stays.
+    /// `ShortInput`: fewer remain. The parser is then unchanged.
     #[tactic(auto, using(name_spec::proofs::OctetLaws::number_octets))]
     pub fn parse_u16(&mut self) -> Result<u16, ShortInput>
         ensures number { IfOk result (λ number. number
@@ -180,7 +180,7 @@ impl<'a> Parser<'a> {
 
     /// The number in the next four octets, the high one first (RFC 1035, section 2.3.2).
     ///
-    /// `ShortInput`: fewer remain. The parser then stays.
+    /// `ShortInput`: fewer remain. The parser is then unchanged.
     pub fn parse_u32(&mut self) -> Result<u32, ShortInput>
         ensures number { IfOk result (λ number. number
             ≡ from_be_bytes w32 (slice_range self.old.message self.old.pos (self.old.pos + 4))) }

@@ -15,7 +15,7 @@ use std::cmp::Ordering;
 
 /// The data of a record of one type.
 ///
-/// A type says by `rtype_of` which record type each of its values is of, and owes that `rtype` answers it.
+/// A type says by `rtype_of` which record type each of its values is of, and proves that `rtype` answers it.
 pub trait RecordData {
     /// The number of the record's type (RFC 1035, section 3.2.2).
     ghost rtype_of: { Self → ℕ };
@@ -28,10 +28,10 @@ pub trait RecordData {
 /// Record data that is composed.
 ///
 /// A type says by `octets` what its data is on the wire, with names uncompressed and each octet as the value has it. It
-/// owes that these are at most 65,535 octets, since `rdlen` counts them in 16 bits, that `compose_rdata` appends them,
-/// and that `compose_canonical_rdata` appends what its [`CanonicalOrd`] calls `canonical`. So the octets by which data of
-/// one type is ordered are those that are composed in canonical form. A type without names has the same octets in both
-/// forms; one whose names are lowered in canonical form says so by its own `canonical`.
+/// proves that these are at most 65,535 octets, since `rdlen` counts them in 16 bits, that `compose_rdata` appends
+/// them, and that `compose_canonical_rdata` appends what its [`CanonicalOrd`] calls `canonical`. So the octets by which
+/// data of one type is ordered are those that are composed in canonical form. A type without names has the same octets
+/// in both forms; one whose names are lowered in canonical form says so by its own `canonical`.
 pub trait ComposeRecordData: RecordData + CanonicalOrd {
     /// The data's octets on the wire.
     ghost octets: { Self → List ℕ };
@@ -43,7 +43,7 @@ pub trait ComposeRecordData: RecordData + CanonicalOrd {
 
     /// Appends the data's octets.
     ///
-    /// `NoMemory`: the memory for them isn't there. The target's octets then stay.
+    /// `NoMemory`: an allocation failed; the target's octets are unchanged.
     fn compose_rdata(&self, target: &mut Vec<u8>) -> Result<(), NoMemory>
         ensures appends { AppendsOctets target.old.items target.new.items
             (octets self.now) result };
@@ -51,7 +51,7 @@ pub trait ComposeRecordData: RecordData + CanonicalOrd {
     /// Appends the data's octets in canonical form (RFC 4034, section 6.2), by which `canonical_cmp` orders data of one
     /// type.
     ///
-    /// `NoMemory`: the memory for them isn't there. The target's octets then stay.
+    /// `NoMemory`: an allocation failed; the target's octets are unchanged.
     fn compose_canonical_rdata(&self, target: &mut Vec<u8>) -> Result<(), NoMemory>
         ensures appends { AppendsOctets target.old.items target.new.items
             (Self.canonical self.now) result };
@@ -62,9 +62,9 @@ pub trait ComposeRecordData: RecordData + CanonicalOrd {
 
 /// Record data that is read from a message.
 ///
-/// A type says by `takes` which type numbers it takes, by `reads` what the octets from a place up to the end of the data
-/// are under such a number and where they end, or which fault they have, and by `seen` how contracts see data that was
-/// read. It owes that `parse_rdata` answers by these, and where the parser then stands.
+/// A type says by `takes` which type numbers it takes, by `reads` what the octets from a place up to the end of the
+/// data are under such a number and where they end, or which fault they have, and by `seen` how contracts see data that
+/// was read. It proves that `parse_rdata` answers by these, and where the parser then stands.
 pub trait ParseRecordData: RecordData + Sized + Drop {
     /// What contracts see of record data.
     ghost Seen: { Type 0 };
@@ -75,15 +75,15 @@ pub trait ParseRecordData: RecordData + Sized + Drop {
     /// Whether the type takes a type number.
     ghost takes: { ℕ → Bool };
 
-    /// What the octets from the parser's place on are under a type number that the type takes, and the place behind them;
-    /// or their first fault.
+    /// What the octets from the parser's place on are under a type number that the type takes, and the place behind
+    /// them; or their first fault.
     ghost reads: { ℕ → Input → Result (DataRead Seen) Fault };
 
     /// The record data at the parser's place, which then goes behind it. None exactly where the type doesn't take the
     /// type number; then nothing is read.
     ///
-    /// `ShortInput`, `Form`: the first fault of the octets. `NoMemory`: they have no fault, and the memory for what was
-    /// read isn't there. The parser then stays.
+    /// `ShortInput`, `Form`: the first fault of the octets. `NoMemory`: they have no fault, and an allocation for what
+    /// was read failed. The parser is then unchanged.
     fn parse_rdata(
         alloc: Global,
         rtype: Rtype,
@@ -98,8 +98,8 @@ pub trait ParseRecordData: RecordData + Sized + Drop {
 
 /// The canonical order of record data, or of a part of it (RFC 4034, section 6.3).
 ///
-/// A type says by `group` and `canonical` what the order goes by, and owes that `canonical_cmp` is that order. Of record
-/// data `group` is the number of the record's type, and `canonical` what is composed in canonical form, as
+/// A type says by `group` and `canonical` what the order goes by, and proves that `canonical_cmp` is that order. Of
+/// record data `group` is the number of the record's type, and `canonical` what is composed in canonical form, as
 /// [`ComposeRecordData`] asks. Of a part of record data `group` is any one number for all values of the type.
 pub trait CanonicalOrd {
     /// The number that is compared first.
@@ -109,7 +109,7 @@ pub trait CanonicalOrd {
     ghost canonical: { Self → List ℕ };
 
     /// The canonical order: by `group`, and then by `canonical`, where a prefix of the other's octets comes first. It
-    /// takes no memory.
+    /// allocates nothing.
     fn canonical_cmp(&self, other: &Self) -> Ordering
         ensures { result ≡ canonical_order
             (group self.now) (canonical self.now) (group other.now) (canonical other.now) };

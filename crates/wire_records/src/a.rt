@@ -47,9 +47,9 @@ impl A {
         self.0
     }
 
-    /// Reads the data in the next 4 octets. No memory is taken, so `NoMemory` is never answered.
+    /// Reads the data in the next 4 octets. It allocates nothing, so it never fails with `NoMemory`.
     ///
-    /// `ShortInput`: fewer remain. The parser then stays.
+    /// `ShortInput`: fewer remain. The parser is then unchanged.
     pub fn parse(parser: &mut Parser<'_>) -> Result<A, ParseError>
         ensures octets { IfOk result (λ found. found ≡ next_octets 4 parser.old) }
         ensures takes { TakesOctets parser.old parser.new 4 result }

@@ -8,7 +8,7 @@ use wire_base::{Address, Parser, ShortInput};
 
 /// The address in the next `N` octets.
 ///
-/// `ShortInput`: fewer remain. The parser then stays.
+/// `ShortInput`: fewer remain. The parser is then unchanged.
 pub(crate) fn parse_address<const N: usize>(
     parser: &mut Parser<'_>,
 ) -> Result<Address<N>, ShortInput>

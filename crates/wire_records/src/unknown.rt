@@ -17,8 +17,8 @@ use wire_base::{
     RecordData, Rtype,
 };
 
-/// Record data of any type: the type, and at most 65,535 octets, which have no meaning here. Data that has a type of its
-/// own may be held so too. Data is compared by the number of its type, then octet by octet.
+/// Record data of any type: the type, and at most 65,535 octets, which have no meaning here. Data of a type that has a
+/// struct of its own may be kept so too. Data is compared by the number of its type, then octet by octet.
 #[derive(Debug, Drop)]
 pub struct UnknownRecordData {
     rtype: Rtype,
@@ -52,14 +52,15 @@ impl UnknownRecordData {
 
     /// Reads the data in all octets before the end of the data, and copies it.
     ///
-    /// `Form`: there are more than 65,535 octets; this is tested before memory is taken. `NoMemory`: the memory for the
-    /// copy isn't there. The parser then stays.
+    /// `Form`: there are more than 65,535 octets; this is tested before anything is allocated. `NoMemory`: an
+    /// allocation failed. The parser is then unchanged.
     pub fn parse(
         alloc: Global,
         rtype: Rtype,
         parser: &mut Parser<'_>,
     ) -> Result<UnknownRecordData, ParseError>
-        ensures answer { GivesCopy (λ found. found) result (unknown_read rtype (octets_left parser.old)) }
+        ensures answer { GivesCopy (λ found. found) result
+            (unknown_read rtype (octets_left parser.old)) }
         ensures takes { TakesAll parser.old parser.new result }
     {
         let slice = parser.remaining_octets();
@@ -79,7 +80,7 @@ impl UnknownRecordData {
 
     /// A copy.
     ///
-    /// `NoMemory`: the memory for it isn't there.
+    /// `NoMemory`: an allocation failed.
     pub fn try_clone(&self, alloc: Global) -> Result<UnknownRecordData, NoMemory>
         ensures { IfOk result (λ copy. copy ≡ self.now) }
     {

@@ -1,5 +1,5 @@
 use Rattle.std.proofs.Common.{◌≡◌, ◌∷◌, ◌++◌, [], length, ap, ◌∙◌, arith}
-use Rattle.svcb_list.specs.Pushing.{IsProtocolLength}
+use Rattle.svcb_spec.specs.BuildingValues.{IsProtocolLength}
 use Rattle.svcb_params.proofs.Protocols.{next_taken, next_fault}
 use Rattle.svcb_params.proofs.typed_pushes.alpn_of.Goals as goal
 

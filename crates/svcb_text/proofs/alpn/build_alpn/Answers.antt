@@ -1,6 +1,6 @@
 use Rattle.std.proofs.Common.{◌≡◌, ◌<◌, List, ℕ, length, take, get_or, sym, subst, arith}
 use Rattle.svcb_spec.specs.Values.{Alpn, protocols_wire}
-use Rattle.svcb_list.specs.Pushing.{IsProtocolLength}
+use Rattle.svcb_spec.specs.BuildingValues.{IsProtocolLength}
 use Rattle.svcb_text.proofs.ProtocolLemmas.{push_answers, protocol_at, protocols_exceed}
 use Rattle.svcb_text.proofs.alpn.build_alpn.Goals as goal
 

@@ -11,8 +11,9 @@ returns-in_err-protocol-clause-answer c =
     c.loop-protocols.invariant.so_far c.in_err-protocol.field-0.0
     c.in_err-protocol.ensures.item)
 
-pub returns-then-len-gt255-clause-answer : goal.returns-then-len-gt255-clause-answer
-returns-then-len-gt255-clause-answer c =
+pub returns-then-len-gt-MAX_PROTOCOL_LEN-clause-answer
+    : goal.returns-then-len-gt-MAX_PROTOCOL_LEN-clause-answer
+returns-then-len-gt-MAX_PROTOCOL_LEN-clause-answer c =
     protocols_long c.args.text.now c.loop-protocols.items c.loop-protocols.protocols.items
     c.loop-protocols.invariant.so_far c.in-Some.protocol
     (c.in_ok-protocol.ensures.item ∙ ap (λ (o : Option (List ℕ)). Ok o) c.in-Some.is) (omega arith)

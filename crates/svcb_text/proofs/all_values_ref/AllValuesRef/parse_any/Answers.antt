@@ -1,6 +1,6 @@
 use Rattle.std.proofs.Common.{◌∙◌}
 use Rattle.svcb_spec.specs.ReadingValues.{take_value, whole_taken}
-use Rattle.svcb_text.proofs.Wholes.{some_value, no_value, refused}
+use Rattle.svcb_text.proofs.WholeValueLemmas.{some_value, no_value, refused}
 use Rattle.svcb_text.proofs.all_values_ref.AllValuesRef.parse_any.Goals as goal
 
 pub returns-in-Ok-Some : goal.returns-in-Ok-Some
