@@ -24,7 +24,7 @@ pub enum ReadError {
     /// The source failed.
     #[error("device failed")]
     Failed,
-    /// There is no memory for the input.
+    /// Allocation failed.
     #[error("want of memory")]
     NoMemory,
 }
@@ -45,11 +45,11 @@ impl From<AllocError> for ReadError {
     }
 }
 
-/// Takes the octets that `source` has left. It stops at their end, or as soon as more than
-/// `MAX_INPUT` of them were taken, which is an input too long.
+/// Takes the octets that `source` has left. It stops at their end, or as soon as more than `MAX_INPUT` of them were
+/// taken, which is an input too long.
 ///
-/// `Failed` comes where a read fails, and `NoMemory` where there is no memory for the octets. Some
-/// octets may then have been taken from the front of what was left.
+/// `Failed`: a read failed. `NoMemory`: allocation for the octets failed. A prefix of what was left may have been taken
+/// then. No read follows one that gave no octet, at the end of the input or by failing.
 pub fn read_input<S: Source>(alloc: Global, source: &mut S) -> Result<Vec<u8>, ReadError>
     ensures taken { IfOk result (λ input.
         Consumes (S.left source.old) (S.left source.new) input.items) }

@@ -22,8 +22,8 @@ pub struct Endpoint {
 }
 
 impl Endpoint {
-    /// Reads the parameters, whose values are typed. A value that its type refuses is as good as absent. Refused when
-    /// allocation fails for the addresses alone.
+    /// Reads the parameters, whose values are typed. A value that its type refuses counts as absent. Fails only where
+    /// allocation for the addresses does.
     pub fn new(alloc: Global, found: &SvcbRef<'_, HttpsVariant>) -> Result<Endpoint, AllocError>
         ensures { IfOk result (λ endpoint.
             option_map values.Port endpoint.port ≡ typed_at 3 found.now.pairs) }

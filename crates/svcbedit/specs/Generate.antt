@@ -11,6 +11,7 @@ use Rattle.svcb_spec.specs.Rebuilding.{Rebuilt, Refusal, rebuild}
 use Rattle.svcb_spec.specs.Values.{Value, Unknown}
 use Rattle.svcbedit.specs.Edit.{report_of}
 use Rattle.svcbedit.specs.Report.{Answer, done_answer}
+use Rattle.svcbedit.specs.declared.generate.TheConstants.{MAX_PARAMS, MAX_PUSHED, PARAMS_LIMIT}
 
 -- the first parameters of the data: under the key 100 + 8i the two octets of i
 unfoldable pub own_params : ℕ → List ℕ
@@ -57,13 +58,13 @@ summary rebuilt =
     summary_text (count_by is_accepted rebuilt.replies) (count_by is_duplicate rebuilt.replies)
     (length rebuilt.octets) (sum rebuilt.octets)
 
--- the data of so many parameters, with as many pushes, but at most 2000, and a limit of 65,532
--- octets
+-- the data of so many parameters, with as many pushes, but at most `MAX_PUSHED`
 abbrev pub own_rebuilt : ℕ → Result Rebuilt Refusal
 own_rebuilt count =
-    rebuild (own_message count) 0 (length (own_message count)) (pushes_below (min count 2000)) 65532
+    rebuild (own_message count) 0 (length (own_message count))
+    (pushes_below (min count MAX_PUSHED)) PARAMS_LIMIT
 
--- the answer of `gen` to a count, which is at most 8000 where words give it
+-- the answer of `gen` to a count, which is at most `MAX_PARAMS` where words give it
 abbrev pub due_of_gen : ℕ → Answer
 due_of_gen count =
-    report_of (λ rebuilt. done_answer (summary rebuilt)) (own_rebuilt (min count 8000))
+    report_of (λ rebuilt. done_answer (summary rebuilt)) (own_rebuilt (min count MAX_PARAMS))

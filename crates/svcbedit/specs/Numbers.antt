@@ -9,3 +9,7 @@ decimal_number text =
     if nat_le 1 (length text) && nat_le (length text) 10 && all_ascii_digits text && nat_lt
     (digits_value 10 text) (2 ^ 32)
     then Some (digits_value 10 text) else None
+
+-- the greatest number of 16 bits
+abbrev pub max_u16 : ℕ
+max_u16 = 65535

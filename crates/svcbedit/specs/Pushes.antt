@@ -5,7 +5,7 @@ use Rattle.std.specs.Str.{bytes_eq}
 use Rattle.hex.specs.Hex.{decode_of}
 use Rattle.svcb_spec.specs.Values.{Value, Unknown}
 use Rattle.svcbedit.specs.Lines.{words}
-use Rattle.svcbedit.specs.Numbers.{decimal_number}
+use Rattle.svcbedit.specs.Numbers.{decimal_number, max_u16}
 use Rattle.svcbedit.specs.Bounds.{◌>>=◌}
 use Rattle.svcbedit.specs.TokenPushes.{token_push}
 
@@ -15,13 +15,13 @@ hexadecimal_octets text = result_ok (decode_of text)
 
 -- a number of at most 65,535
 abbrev pub key_in_text : List ℕ → Option ℕ
-key_in_text text = decimal_number text >>= λ key. if nat_le key 65535 then Some key else None
+key_in_text text = decimal_number text >>= λ key. if nat_le key max_u16 then Some key else None
 
 -- one octet or more, and at most 65,535
 abbrev pub value_octets : List ℕ → Option (List ℕ)
 value_octets text = hexadecimal_octets text >>= λ octets.
     if length octets == 0 then None
-    else if nat_lt 65535 (length octets) then None
+    else if nat_lt max_u16 (length octets) then None
     else Some octets
 
 -- the value of a key and of what follows it: hexadecimal, or nothing, where the value has no octets

@@ -24,7 +24,7 @@ pub record Ends (status : ℕ) (answer : Option Answer) (old new : Option (List 
       → IfSome answer (λ a. (status ≡ a.status) × Whole a old new)
   -- a write failed: a prefix of its report
   pub part : status ≡ exit_code exit.WriteFault → IfSome answer (λ a. Part a old new)
-  -- a read failed, or memory was wanting: nothing
+  -- a read failed, or allocation failed: nothing
   pub read_fault : status ≡ exit_code exit.ReadFault → Keeps old new
   pub no_memory : status ≡ exit_code exit.NoMemory → Keeps old new
 

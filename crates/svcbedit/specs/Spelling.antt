@@ -63,8 +63,8 @@ spelled_lines all = do
 abbrev pub spelling_of : List ℕ → Result Spelled InputFault
 spelling_of bytes = spelled_lines (lines bytes)
 
--- A reader of the code answers, seen by `view`, what a definition gives. Want of memory says
--- nothing of the input.
+-- A reader of the code answers, seen by `view`, what a definition gives. A failed
+-- allocation says nothing of the input.
 abbrev pub IsFault : {Y : Type 0} → SpellError → Result Y InputFault → Type 0
 IsFault (Fault fault) given = given ≡ Err fault
 IsFault NoMemory given = Unit {0}

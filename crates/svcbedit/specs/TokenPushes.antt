@@ -28,8 +28,8 @@ lone_token text = entry_tokens text >>= only_one >>= λ token. Some (octets_of t
 abbrev pub token_push : List ℕ → Option Value
 token_push line = lone_token line >>= λ octets. result_ok (spells octets)
 
--- A call answers, seen by `view`, what a line has, or that it has none. Want of memory says nothing
--- of the line.
+-- A call answers, seen by `view`, what a line has, or that it has none. A failed allocation says
+-- nothing of the line.
 abbrev pub ReadsAs : {X Y : Type 0} → (X → Y) → Result X ScanError → Option Y → Type 0
 ReadsAs view (Ok x) given = given ≡ Some (view x)
 ReadsAs view (Err NoMemory) given = Unit {0}

@@ -3,8 +3,9 @@ use Rattle.std.specs.Prelude.{ℕ, nat_le, ◌&&◌, Option, Some, None, List, [
 use Rattle.std.specs.Option.{option_map}
 use Rattle.std.specs.Str.{bytes_eq}
 use Rattle.std.specs.declared.string.String.{String}
-use Rattle.svcbedit.specs.Numbers.{decimal_number}
+use Rattle.svcbedit.specs.Numbers.{decimal_number, max_u16}
 use Rattle.svcbedit.specs.Bounds.{◌>>=◌}
+use Rattle.svcbedit.specs.declared.generate.TheConstants.{MAX_PARAMS}
 use Rattle.svcbedit.specs.declared.words.Command.{Command}
 use Rattle.svcbedit.specs.declared.words.Command.TheVariants.{Edit, Show, Scan, Gen}
 
@@ -23,7 +24,7 @@ number_within digits least greatest word =
 -- the number of the record type that `type` and one to five digits name
 abbrev pub numbered_type : List ℕ → Option ℕ
 numbered_type word =
-    if bytes_eq (take 4 word) (codes "type") then number_within 5 0 65535 (drop 4 word) else None
+    if bytes_eq (take 4 word) (codes "type") then number_within 5 0 max_u16 (drop 4 word) else None
 
 -- The number of the record type that a word names: its mnemonic in the registry of resource record
 -- types in lower case, or any number.
@@ -47,9 +48,9 @@ abbrev pub only_type : List (List ℕ) → Option ℕ
 only_type (word ∷ []) = type_of word
 only_type words = None
 
--- one to four digits of a number from 1 to 8000
+-- one to four digits of a number from 1 to `MAX_PARAMS`
 abbrev pub count_of : List ℕ → Option ℕ
-count_of word = number_within 4 1 8000 word
+count_of word = number_within 4 1 MAX_PARAMS word
 
 -- the count that the only word gives
 abbrev pub only_count : List (List ℕ) → Option ℕ

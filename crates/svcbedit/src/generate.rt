@@ -18,17 +18,23 @@ use svcb_value::parameter::put_param;
 use wire_base::{NoMemory, Octets};
 
 /// How many parameters the data has at most.
-const MAX_PARAMS: u16 = 8000;
+pub const MAX_PARAMS: u16 = 8000;
 
 /// How many parameters are pushed at most, those that are pushed twice counted once.
-const MAX_PUSHED: u16 = 2000;
+pub const MAX_PUSHED: u16 = 2000;
 
 /// How many octets the parameters may have.
-const LIMIT: usize = 65_532;
+pub const PARAMS_LIMIT: usize = 65_532;
+
+const _: () = prove!(MAX_PARAMS == 8000);
+
+const _: () = prove!(MAX_PUSHED == 2000);
+
+const _: () = prove!(PARAMS_LIMIT == 65_532);
 
 /// Adds a parameter to the data.
 fn put_own_param(message: &mut Vec<u8>, i: u16) -> Result<(), NoMemory>
-    requires { i < 8000 }
+    requires { i < MAX_PARAMS }
     ensures { IfOk result (λ _.
         message.new.items ≡ message.old.items ++ pair_wire (100 + 8 * i) (Some (be2 i))) }
 {
@@ -40,7 +46,7 @@ fn put_own_param(message: &mut Vec<u8>, i: u16) -> Result<(), NoMemory>
 /// The data, of so many parameters.
 #[tactic(auto, using(crate::proofs::GenLemmas::own_message_steps))]
 fn own_message(alloc: Global, count: u16) -> Result<Vec<u8>, NoMemory>
-    requires { count ≤ 8000 }
+    requires { count ≤ MAX_PARAMS }
     ensures { IfOk result (λ message. message.items ≡ own_message count) }
 {
     let mut message = Vec::with_capacity(alloc, 3 + 6 * usize::from(count))?;
@@ -55,7 +61,7 @@ fn own_message(alloc: Global, count: u16) -> Result<Vec<u8>, NoMemory>
 
 /// A value that is pushed.
 fn own_push(alloc: Global, j: u16) -> Result<AllValues, NoMemory>
-    requires { j < 2000 }
+    requires { j < MAX_PUSHED }
     ensures { IfOk result (λ push. value_of push ≡ own_push j) }
 {
     let octets = Octets::from_slice(alloc, &j.to_be_bytes())?;
@@ -65,7 +71,7 @@ fn own_push(alloc: Global, j: u16) -> Result<AllValues, NoMemory>
 
 /// Adds a value that is pushed, twice where its number is divisible by 4.
 fn add_push(alloc: Global, pushes: &mut Vec<AllValues>, j: u16) -> Result<(), NoMemory>
-    requires { j < 2000 }
+    requires { j < MAX_PUSHED }
     ensures { IfOk result (λ _.
         map value_of pushes.new.items ≡ map value_of pushes.old.items ++ pushes_at j) }
 {
@@ -78,7 +84,7 @@ fn add_push(alloc: Global, pushes: &mut Vec<AllValues>, j: u16) -> Result<(), No
 
 /// The values that are pushed, of the greatest key first.
 fn own_pushes(alloc: Global, count: u16) -> Result<Vec<AllValues>, NoMemory>
-    requires { count ≤ 2000 }
+    requires { count ≤ MAX_PUSHED }
     ensures { IfOk result (λ pushes. map value_of pushes.items ≡ pushes_below count) }
 {
     let mut pushes = Vec::new(alloc);
@@ -109,7 +115,7 @@ fn count_replies(replies: &[Reply]) -> (usize, usize)
 
 /// The sum of octets.
 fn sum_octets(octets: &[u8]) -> u32
-    requires { length octets.now ≤ 65535 }
+    requires { length octets.now ≤ u16.MAX }
     ensures { result ≡ sum octets.now }
 {
     let mut sum = 0;
@@ -142,7 +148,7 @@ impl fmt::Display for Summary {
 
 /// Counts the replies, and counts and sums the octets.
 fn summary_of(rebuilt: &Rebuilt) -> Summary
-    requires { length rebuilt.now.octets ≤ 65535 }
+    requires { length rebuilt.now.octets ≤ u16.MAX }
     ensures { summary_text result.accepted result.duplicate result.octets result.sum
         ≡ summary (rebuilt_view rebuilt.now) }
 {
@@ -158,7 +164,7 @@ fn summary_of(rebuilt: &Rebuilt) -> Summary
 
 /// The answer where the data was rebuilt.
 fn summary_answer(alloc: Global, rebuilt: &Rebuilt) -> Result<Answer, NoMemory>
-    requires { length rebuilt.now.octets ≤ 65535 }
+    requires { length rebuilt.now.octets ≤ u16.MAX }
     ensures { IfOk result (λ answer.
         answer_view answer ≡ done_answer (summary (rebuilt_view rebuilt.now))) }
 {
@@ -176,7 +182,7 @@ pub fn gen_answer(alloc: Global, count: u16) -> Result<Answer, NoMemory>
     let count = count.min(MAX_PARAMS);
     let message = own_message(alloc, count)?;
     let pushes = own_pushes(alloc, count.min(MAX_PUSHED))?;
-    match rebuild_svcb(alloc, &message, 0, message.len(), &pushes, LIMIT) {
+    match rebuild_svcb(alloc, &message, 0, message.len(), &pushes, PARAMS_LIMIT) {
         Ok(rebuilt) => summary_answer(alloc, &rebuilt),
         Err(error) => refusal_answer(alloc, error),
     }

@@ -5,7 +5,7 @@ ghost use Rattle.svcbedit.specs.Lines.{pieces, lines};
 
 use std::marker::Model;
 
-/// The place of the first separator.
+/// The index of the first separator.
 fn find(bytes: &[u8], separator: u8) -> Option<usize>
     ensures { result ≡ position (λ b. b == separator) bytes.now }
 {

@@ -49,8 +49,8 @@ fn raw_line(text: &[u8]) -> Option<RawLine<'_>>
 /// The value under a key, where it isn't too long.
 fn param(key: u16, octets: Octets) -> Option<AllValues>
     ensures { MatchOption result
-        (65535 < length octets)
-        (λ push. (length octets ≤ 65535) × (value_of push ≡ Unknown key octets)) }
+        (u16.MAX < length octets)
+        (λ push. (length octets ≤ u16.MAX) × (value_of push ≡ Unknown key octets)) }
 {
     let param = UnknownSvcParam::new(SvcParamKey::from(key), octets).ok()?;
     Some(AllValues::from(param))

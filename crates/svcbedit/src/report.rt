@@ -50,7 +50,7 @@ pub struct Answer {
     pub report: String,
 }
 
-/// An answer with a text that stands ready. Fails only with `NoMemory`.
+/// An answer with a constant text. Fails only with `NoMemory`.
 pub fn text_answer(alloc: Global, outcome: Outcome, text: &str) -> Result<Answer, NoMemory>
     ensures { IfOk result (λ answer. answer_view answer
         ≡ record { status = status_of outcome; report = text.now }) }

@@ -20,7 +20,7 @@ use crate::words::{Command, command_in};
 use devices::{MAX_INPUT, Sink, Source, read_input, write_all};
 use std::alloc::Global;
 
-/// The report on words that are no command. It stands ready, so that no memory is taken for it.
+/// The report on words that are no command, a constant, so that no memory is taken for it.
 const NO_COMMAND: &str = "refused: unknown command\n";
 
 /// Reads the input of a command that reads one, and gives the command's answer.
@@ -77,7 +77,7 @@ fn perform<S: Source, K: Sink>(
 /// input is well formed, and what it asks for can't be done. 4: a read failed, and nothing is written. 5: a write
 /// failed, and a prefix of the report is written. 6: allocation failed, and nothing is written.
 ///
-/// The whole report is made before the first write. Want of memory may come wherever memory is taken, but never for
+/// The whole report is made before the first write. Allocation may fail wherever memory is taken, but never for
 /// words that are no command, nor where a device failed.
 pub fn run<S: Source, K: Sink>(alloc: Global, words: &[String], source: &mut S, sink: &mut K) -> u8
     // The answer that is due is written, unless a fault or a failed allocation comes.
@@ -103,7 +103,7 @@ pub fn run<S: Source, K: Sink>(alloc: Global, words: &[String], source: &mut S, 
     ensures source_keeps_telling { is_some (S.left source.new) ≡ is_some (S.left source.old) }
     ensures sink_keeps_telling { is_some (K.held sink.new) ≡ is_some (K.held sink.old) }
 
-    // Where neither device fails, the answer that is due is given, or memory is wanting.
+    // Where neither device fails, the answer that is due is given, or allocation failed.
     ensures complete { ¬ (Rose (S.faults source.old) (S.faults source.new))
         → ¬ (Rose (K.faults sink.old) (K.faults sink.new))
         → IfSome (due (command_of words.now) (S.left source.old)) (λ answer.

@@ -16,7 +16,7 @@ pub enum RunError {
     /// The sink failed, and a part of the report was written.
     #[error("a write failed")]
     WriteFault,
-    /// There is no memory, and nothing was written.
+    /// Allocation failed, and nothing was written.
     #[error("want of memory")]
     NoMemory,
 }

@@ -58,7 +58,7 @@ pub enum SpellError {
     /// The input has a fault.
     #[error(transparent)]
     Fault(InputFault),
-    /// There is no memory for what it spells.
+    /// Allocation for what it spells failed.
     #[error("want of memory")]
     NoMemory,
 }
@@ -168,7 +168,7 @@ pub fn read_spelling(alloc: Global, input: &[u8]) -> Result<Spelling, SpellError
     })
 }
 
-/// Reads an input of `show`: the octets of its only line. `Fault` is the first fault of form in it, and `NoMemory`
+/// Reads an input of `show`: the octets of its only line. `Fault` is the first fault of form in it, and `NoMemory` a
 /// failed allocation for the octets.
 pub fn read_octets(alloc: Global, input: &[u8]) -> Result<Octets, SpellError>
     ensures { SpellsAs (λ octets. octets) result (spelled_octets input.now) }

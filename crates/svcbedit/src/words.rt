@@ -4,6 +4,7 @@ ghost use Rattle.svcbedit.specs.Commands.{is_reading};
 ghost use Rattle.svcbedit.specs.Words.{command_alone, only_type, type_of, numbered_type, number_within};
 ghost use Rattle.svcbedit.specs.Words.{only_count, count_of, command_of};
 
+use crate::generate::MAX_PARAMS;
 use crate::numbers::number;
 use wire_base::Rtype;
 
@@ -95,11 +96,11 @@ fn only_type_in(words: &[String]) -> Option<Rtype>
     }
 }
 
-/// The count that a word gives: one to four digits of a number from 1 to 8000.
+/// The count that a word gives: one to four digits of a number from 1 to `MAX_PARAMS`.
 fn count_in(word: &str) -> Option<u16>
     ensures { result ≡ count_of word.now }
 {
-    number_in(word, 4, 1, 8000)
+    number_in(word, 4, 1, MAX_PARAMS)
 }
 
 /// The count that the only word gives.
