@@ -54,7 +54,8 @@ module _ (began before after : Scan) (entries entries' : Entries)
   stands = so_far.left ∙ values_at-here so_far.values before.tokens before.taken before.taken here
 
   -- one token more
-  pub so_far-next : KeepsNext before after entries entries' (Ok tt) → SoFar began after entries'
+  pub so_far-next : {X : Type 0} {done : X} → KeepsNext before after entries entries' (Ok done)
+      → SoFar began after entries'
   so_far-next keeps =
       let kept = keeps.kept so_far.values so_far.holds in
       let tokens : after.tokens ≡ before.tokens = ap (λ (scan : Scan). scan.tokens) keeps.place in
@@ -82,27 +83,30 @@ module _ (began before after : Scan) (entries entries' : Entries)
         (stands ∙ ap
         (after_next so_far.values (drop (suc before.taken) before.tokens) before.taken) is)
 
-    answered : (fault : ScanError) → Kept so_far.values read entries' (Err fault)
+    answered : (X : Type 0) (fault : ScanError)
+        → Kept {X = X} so_far.values read entries' (Err fault)
         → Answers view (Err fault) (params began.tokens began.taken).outcome
-    answered NoMemory kept = tt
-    answered fault kept =
+    answered X NoMemory kept = tt
+    answered X fault kept =
         ap (λ (scanned : Scanned Pairs). scanned.outcome) (refused_here fault kept)
 
-    placed : (fault : ScanError) → Kept so_far.values read entries' (Err fault)
+    placed : (X : Type 0) (fault : ScanError)
+        → Kept {X = X} so_far.values read entries' (Err fault)
         → after.taken ≡ before.taken
         → StandsBehind {T = T} (Err fault) (params began.tokens began.taken).place began.taken
         after.taken
-    placed NoMemory kept taken = omega (arith, so_far.further, taken)
-    placed fault kept taken =
+    placed X NoMemory kept taken = omega (arith, so_far.further, taken)
+    placed X fault kept taken =
         taken ∙ sym (ap (λ (scanned : Scanned Pairs). scanned.place) (refused_here fault kept))
 
-    pub so_far-refused : (fault : ScanError) → KeepsNext before after entries entries' (Err fault)
+    pub so_far-refused : {X : Type 0} (fault : ScanError)
+        → KeepsNext {X = X} before after entries entries' (Err fault)
         → ScansPart view params began after (Err fault)
-    so_far-refused fault keeps =
+    so_far-refused {X} fault keeps =
         let kept = keeps.kept so_far.values so_far.holds in
         record {
-          answer = answered fault kept;
-          place = placed fault kept (ap (λ (scan : Scan). scan.taken) keeps.place);
+          answer = answered X fault kept;
+          place = placed X fault kept (ap (λ (scan : Scan). scan.taken) keeps.place);
           tokens = ap (λ (scan : Scan). scan.tokens) keeps.place ∙ so_far.tokens;
         }
 

@@ -1,9 +1,3 @@
-mod Tests
-mod HeldKeys
-mod OwnTexts
-mod Distinct
-mod PairTexts
-mod Documents
 pub mod Insertions
 pub mod OneMore
 pub mod MandatoryKeys

@@ -39,13 +39,14 @@ is_read tokens place octets read =
         ≡ Ok octets
         → ((elim found [ None ↦ Err EndOfEntry | Some token ↦ f (octets_of token) ]) ≡ f octets)
         × ((at_token place
-        (elim found [ None ↦ Err EndOfEntry | Some token ↦ any_octets token ])).place ≡ place + 1)) [
+        (elim found [ None ↦ Err EndOfEntry | Some token ↦ any_octets token ])).place
+        ≡ place + 1)) [
           | None ↦ λ is. absurd (no_octets EndOfEntry octets is)
           | Some token ↦ λ is. (ap f (same_octets (octets_of token) octets is), refl)
         ] read
 
-pub next_kept : (old mid new : Scan) (octets : List ℕ) (entries entries' : Entries)
-    (result : Result (Unit {0}) ScanError)
+pub next_kept : {X : Type 0} (old mid new : Scan) (octets : List ℕ) (entries entries' : Entries)
+    (result : Result X ScanError)
     → Scans {T = List ℕ} (λ octets. octets) (one any_octets) old mid (Ok octets)
     → KeepsToken octets entries entries' result
     → new ≡ record mid { taken = cond (is_ok result) mid.taken old.taken }

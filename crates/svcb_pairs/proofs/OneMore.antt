@@ -74,7 +74,7 @@ module _ (before : List Value) (entries : Entries) (key : ℕ) (value : AllValue
 
     -- another is kept
     pub held_more : (entries' : Entries) → entries' ≡ insert_entry nat_cmp entries key value
-        → Kept before (new_value before (value_of value)) entries' (Ok tt)
+        → Kept {X = ℕ} before (new_value before (value_of value)) entries' (Ok 0)
     held_more entries' put = (
       value_of value,
       ap (λ b. cond b (Err DuplicateKey) (Ok (value_of value))) new,

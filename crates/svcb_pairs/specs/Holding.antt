@@ -46,26 +46,26 @@ next_value before token = spells token >>= new_value before
 
 -- The answer to a value that is read: the map then holds it with those before it, or it is refused
 -- by its fault. Only a failed allocation may stand in place of either.
-abbrev pub Kept : List Value → Result Value ScanError → Entries → Result (Unit {0}) ScanError
-    → Type 0
+abbrev pub Kept : {X : Type 0} → List Value → Result Value ScanError → Entries
+    → Result X ScanError → Type 0
 Kept before read entries (Ok done) =
     (value : Value) × (read ≡ Ok value) × Holds (before ++ value ∷ []) entries
 Kept before read entries (Err NoMemory) = Unit {0}
 Kept before read entries (Err fault) = read ≡ Err fault
 
 -- the answer to a value, whatever values the map held
-abbrev pub KeepsValue : Value → Entries → Entries → Result (Unit {0}) ScanError → Type 0
+abbrev pub KeepsValue : {X : Type 0} → Value → Entries → Entries → Result X ScanError → Type 0
 KeepsValue value old new result = (before : List Value) → Holds before old
     → Kept before (new_value before value) new result
 
 -- the answer to the octets of a token
-abbrev pub KeepsToken : List ℕ → Entries → Entries → Result (Unit {0}) ScanError → Type 0
+abbrev pub KeepsToken : {X : Type 0} → List ℕ → Entries → Entries → Result X ScanError → Type 0
 KeepsToken token old new result = (before : List Value) → Holds before old
     → Kept before (next_value before token) new result
 
 -- the answer to the next token, behind which the scanner stands where it is kept
-pub record KeepsNext (old new : Scan) (entries entries' : Entries)
-    (result : Result (Unit {0}) ScanError) : Type 0 where
+pub record KeepsNext {X : Type 0} (old new : Scan) (entries entries' : Entries)
+    (result : Result X ScanError) : Type 0 where
   pub kept : (before : List Value) → Holds before entries
       → Kept before
       (next_token (λ token. next_value before (octets_of token)) old.tokens old.taken) entries'

@@ -1,5 +1,3 @@
-pub mod NumberSets
-pub mod SeenPair
 pub mod Holding
 pub mod Parameters
 pub mod ParameterLaws

@@ -33,7 +33,7 @@ impl LimitedPairs {
     ghost use Rattle.svcb_pairs.specs.Spans.{kept_behind};
     ghost use Rattle.svcb_pairs.specs.LimitedPairsView.{builder_state, kept_octets, IsSpanned};
 
-    /// No pairs, and a limit in octets, which is below 2^31. No octets were read. No memory is taken.
+    /// No pairs, and a limit in octets, which is below 2^31. No octets were read. Takes no memory.
     pub fn empty(alloc: Global, limit: usize) -> LimitedPairs
         requires { limit < 2 ^ 31 }
         ensures spanned { IsSpanned [] result }
@@ -49,7 +49,7 @@ impl LimitedPairs {
 
     /// The pairs of parameters, which were read, and a limit in octets, which is below 2^31.
     ///
-    /// `NoMemory`: the memory for the spans isn't there.
+    /// `NoMemory`: allocation failed.
     pub fn new(alloc: Global, read: &[u8], limit: usize) -> Result<LimitedPairs, NoMemory>
         requires are_parameters { IsParameters read.now }
         requires within { length read.now ≤ limit }
@@ -67,10 +67,10 @@ impl LimitedPairs {
         })
     }
 
-    /// The pairs of parameters, whose octets are copied into the buffer as a whole, and a limit in octets, which is below
-    /// 2^31. No octets were read.
+    /// The pairs of parameters, whose octets are copied into the buffer as a whole, and a limit in octets, which is
+    /// below 2^31. No octets were read.
     ///
-    /// `NoMemory`: the memory for the copy or for the spans isn't there.
+    /// `NoMemory`: allocation failed.
     pub fn copy_of(alloc: Global, octets: &[u8], limit: usize) -> Result<LimitedPairs, NoMemory>
         requires are_parameters { IsParameters octets.now }
         requires within { length octets.now ≤ limit }
@@ -123,7 +123,7 @@ impl LimitedPairs {
 
     /// Appends the pairs in wire form, by ascending keys. Their room is made first.
     ///
-    /// `NoMemory`: the memory for the room isn't there. The target then stays.
+    /// `NoMemory`: allocation failed; the target is unchanged.
     pub fn compose(&self, read: &[u8], target: &mut Vec<u8>) -> Result<(), NoMemory>
         requires { IsSpanned read.now self.now }
         ensures appends { AppendsOctets target.old.items target.new.items
@@ -138,7 +138,7 @@ impl LimitedPairs {
 
     /// A copy.
     ///
-    /// `NoMemory`: the memory for it isn't there.
+    /// `NoMemory`: allocation failed.
     pub fn try_clone(&self, alloc: Global) -> Result<LimitedPairs, NoMemory>
         ensures own { IfOk result (λ copy. copy.own.items ≡ self.now.own.items) }
         ensures spans { IfOk result (λ copy. copy.spans.entries ≡ self.now.spans.entries) }

@@ -30,27 +30,29 @@ pub fn scan_params<S: Scanner>(alloc: Global, scanner: &mut S) -> Result<Octets,
     scanner.rewind_on_no_memory(place, outcome)
 }
 
-/// The same, but where memory is wanting tokens may be taken.
+/// The same, but when allocation fails tokens may be taken.
 fn scan_left<S: Scanner>(alloc: Global, scanner: &mut S) -> Result<Octets, ScanError>
     ensures params { ScansPart pairs_in params (S.scan scanner.old) (S.scan scanner.new) result }
     ensures are { IfOk result IsParameters }
 {
     let mut values = BTreeMap::new(alloc);
+    let mut len: usize = 0;
     while scanner.continues() {
-        scan_next(alloc, scanner, &mut values)?;
+        len = len.saturating_add(scan_next(alloc, scanner, &mut values)?);
     }
     if !has_mandatory(&values) {
         return Err(ScanError::MandatoryMissing);
     }
-    Ok(compose(alloc, &values)?)
+    Ok(compose(alloc, &values, len)?)
 }
 
-/// Keeps the value that the next token spells. Where it is refused, the scanner stays.
+/// Keeps the value that the next token spells, and gives the count of its parameter's octets in wire form. Where it is
+/// refused, the scanner is unchanged.
 fn scan_next<S: Scanner>(
     alloc: Global,
     scanner: &mut S,
     values: &mut BTreeMap<u16, AllValues>,
-) -> Result<(), ScanError>
+) -> Result<usize, ScanError>
     ensures { KeepsNext (S.scan scanner.old) (S.scan scanner.new)
         values.old.entries values.new.entries result }
 {
@@ -60,12 +62,12 @@ fn scan_next<S: Scanner>(
     scanner.rewind_unless_ok(place, outcome)
 }
 
-/// Keeps the value that a token's octets spell.
+/// Keeps the value that a token's octets spell, and gives the count of its parameter's octets in wire form.
 fn keep_token(
     alloc: Global,
     token: &[u8],
     values: &mut BTreeMap<u16, AllValues>,
-) -> Result<(), ScanError>
+) -> Result<usize, ScanError>
     ensures { KeepsToken token.now values.old.entries values.new.entries result }
 {
     keep(values, scan_param(alloc, token)?)

@@ -16,17 +16,19 @@ use svcb_text::{AllValues, AllValuesRef};
 use text_spec::ScanError;
 use wire_base::{NoMemory, Octets};
 
-/// Keeps a value under its key. Refused as `DuplicateKey` where the key has one already, else when allocation fails
-/// alone.
-pub(crate) fn keep(values: &mut BTreeMap<u16, AllValues>, value: AllValues) -> Result<(), ScanError>
+/// Keeps a value under its key, and gives the count of its parameter's octets in wire form. Refused as `DuplicateKey`
+/// where the key has a value already, else only when allocation fails.
+pub(crate) fn keep(
+    values: &mut BTreeMap<u16, AllValues>,
+    value: AllValues,
+) -> Result<usize, ScanError>
     ensures { KeepsValue (value_of value) values.old.entries values.new.entries result }
 {
-    // a value has at most 65,535 octets, which what `compose_len` says settles
-    let _len = value.compose_len();
+    let len = value.compose_len();
     match values.entry(u16::from(value.key())) {
         Ok(Entry::Vacant(place)) => {
             place.insert(value);
-            Ok(())
+            Ok(4 + usize::from(len))
         }
         Ok(Entry::Occupied(_place)) => Err(ScanError::DuplicateKey),
         Err(_) => Err(ScanError::NoMemory),
@@ -60,11 +62,16 @@ fn has_listed(values: &BTreeMap<u16, AllValues>, value: &AllValues) -> bool
     true
 }
 
-/// The octets of the values in wire form, by ascending keys. Fails only with `NoMemory`.
-pub(crate) fn compose(alloc: Global, values: &BTreeMap<u16, AllValues>) -> Result<Octets, NoMemory>
+/// The octets of the values in wire form, by ascending keys. There are to be `len` of them, for which room is made once.
+/// Fails only with `NoMemory`.
+pub(crate) fn compose(
+    alloc: Global,
+    values: &BTreeMap<u16, AllValues>,
+    len: usize,
+) -> Result<Octets, NoMemory>
     ensures { IfOk result (λ octets. octets ≡ pairs_wire (pairs_of values.now.entries)) }
 {
-    let mut octets = Vec::new(alloc);
+    let mut octets = Vec::with_capacity(alloc, len)?;
     for (key, value) in values {
         compose_with_key(*key, value, &mut octets)?;
     }

@@ -1,3 +1,10 @@
+mod Tests
+mod HeldKeys
+mod OwnTexts
+mod Distinct
+mod PairTexts
+mod Documents
+mod RawPairs
 pub mod Refusals
 pub mod TypedValues
 pub mod Protocols

@@ -5,3 +5,4 @@ pub mod PushErrors
 pub mod ValueFaults
 pub mod OverlayState
 pub mod Scanned
+pub mod NumberSets

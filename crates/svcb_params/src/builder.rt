@@ -17,8 +17,19 @@ use std::marker::Model;
 use svcb_pairs::{LimitedPairs, PushError};
 use wire_base::{NoMemory, Octets};
 
-/// Parameters by their keys, within a limit on their octets in wire form. Contracts see the map, as the list of its
-/// pairs by ascending keys, and the limit.
+/// Builds [`SvcParams`] of values that are pushed in any order, within a limit on the octets of all in wire form.
+///
+/// The first value under a key stays, and a second one is refused, as is a value that would pass the limit; a refused
+/// push changes nothing. The values stand in one buffer until [`freeze`](Self::freeze) writes them by ascending keys.
+///
+/// ```
+/// let mut builder = SvcParamsBuilder::with_limit(alloc, 512);
+/// builder.port(8443)?;
+/// builder.dohpath("/dns-query{?dns}")?;
+/// let params = builder.freeze(alloc)?;
+/// ```
+///
+/// Contracts see the map, as the list of its pairs by ascending keys, and the limit.
 #[derive(Debug, Drop)]
 pub struct SvcParamsBuilder {
     /// No octets were read: the values stand in the buffer.
@@ -42,14 +53,14 @@ impl SvcParamsBuilder {
     /// The limit of a builder that was given none.
     const MAX_LIMIT: usize = (1 << 31) - 1;
 
-    /// A builder without parameters, whose limit is 2^31 - 1 octets. No memory is taken.
+    /// A builder without parameters, whose limit is 2^31 - 1 octets. Takes no memory.
     pub fn empty(alloc: Global) -> SvcParamsBuilder
         ensures { result ≡ empty_builder }
     {
         SvcParamsBuilder::with_limit(alloc, SvcParamsBuilder::MAX_LIMIT)
     }
 
-    /// A builder without parameters, and its limit in octets, which is below 2^31. No memory is taken.
+    /// A builder without parameters, and its limit in octets, which is below 2^31. Takes no memory.
     pub fn with_limit(alloc: Global, limit: usize) -> SvcParamsBuilder
         requires { limit < 2 ^ 31 }
         ensures { result ≡ record { pairs = []; limit = limit } }
@@ -62,8 +73,8 @@ impl SvcParamsBuilder {
 
     /// A builder of parameters, whose limit is 2^31 - 1 octets.
     ///
-    /// `ShortBuf`: the parameters have more octets in wire form than the limit, which is tested before any memory is taken.
-    /// `NoMemory`: the memory for the copy isn't there.
+    /// `ShortBuf`: the parameters have more octets in wire form than the limit, which is tested before any memory is
+    /// taken. `NoMemory`: allocation failed.
     pub fn from_params(
         alloc: Global,
         params: &SvcParamsRef<'_>,
@@ -78,8 +89,8 @@ impl SvcParamsBuilder {
 
     /// A builder of parameters, and its limit in octets, which is below 2^31.
     ///
-    /// `ShortBuf`: the parameters have more octets in wire form than the limit, which is tested before any memory is taken.
-    /// `NoMemory`: the memory for the copy isn't there.
+    /// `ShortBuf`: the parameters have more octets in wire form than the limit, which is tested before any memory is
+    /// taken. `NoMemory`: allocation failed.
     pub fn from_params_limit(
         alloc: Global,
         params: &SvcParamsRef<'_>,
@@ -138,9 +149,9 @@ impl SvcParamsBuilder {
         self.alloc
     }
 
-    /// The parameters. The builder stays.
+    /// The parameters. The builder is unchanged.
     ///
-    /// `NoMemory`: the memory for their octets isn't there.
+    /// `NoMemory`: allocation failed.
     pub fn freeze(&self, alloc: Global) -> Result<SvcParams, NoMemory>
         ensures { IfOk result (λ params. params ≡ self.now.pairs) }
     {
@@ -151,7 +162,7 @@ impl SvcParamsBuilder {
 
     /// A copy.
     ///
-    /// `NoMemory`: the memory for it isn't there.
+    /// `NoMemory`: allocation failed.
     pub fn try_clone(&self) -> Result<SvcParamsBuilder, NoMemory>
         ensures { IfOk result (λ copy. copy ≡ self.now) }
     {

@@ -11,11 +11,10 @@ use std::alloc::Global;
 use svcb_pairs::PushError;
 
 impl SvcParams {
-    /// The parameters of a builder of [`SvcParamsBuilder::empty`] that `op` has filled. `op` may be called on a builder
-    /// without parameters.
+    /// The parameters of a builder of [`SvcParamsBuilder::empty`] that `op` has filled. `op` may be called on a
+    /// builder without parameters.
     ///
-    /// `DuplicateKey`, `ShortBuf`: `op` answers it. `NoMemory`: `op` answers it, or the memory for the parameters isn't
-    /// there.
+    /// `DuplicateKey`, `ShortBuf`: `op` answers it. `NoMemory`: `op` answers it, or allocation failed.
     pub fn from_values<F: FnOnce(&mut SvcParamsBuilder) -> Result<(), PushError>>(
         alloc: Global,
         op: F,

@@ -1,6 +1,6 @@
 //! The values of the types that have a key of their own, each read from the octets under its key. There is none where
 //! the key is absent, and none where the octets are not wholly a value of the type, whatever the octets under other
-//! keys are. No memory is taken.
+//! keys are. None of these calls takes memory.
 
 ghost use Rattle.std.specs.Prelude.{◌≡◌, is_some};
 ghost use Rattle.svcb_spec.specs.Values as values;

@@ -18,8 +18,8 @@ pub fn pairs_are_few()
     ensures { PairsAreFew }
 {}
 
-/// The first value of a type that takes one key, and reads octets under it as the key's own type does, is the value that
-/// the octets under the key wholly are: it is there whatever the octets under lower keys are.
+/// The first value of a type that takes one key, and reads octets under it as the key's own type does, is the value
+/// that the octets under the key wholly are: it is there whatever the octets under lower keys are.
 pub fn first_under_key()
     ensures { FirstUnderKey }
 {}

@@ -1,4 +1,5 @@
-//! Service parameters (RFC 9460, section 2.2) and their builder.
+//! Service parameters (RFC 9460, section 2.2), owned and borrowed: their values by type, their text, and builders that
+//! take values in any order.
 #![tactic(auto)]
 
 mod builder;
@@ -7,10 +8,13 @@ mod errors;
 mod from_values;
 mod getters;
 pub mod laws;
+mod number_set;
 mod overlay;
+mod own_texts;
 mod params;
 mod params_error;
 mod params_ref;
+mod printed_pair;
 mod raw_iter;
 mod scan;
 mod texts;

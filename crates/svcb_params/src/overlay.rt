@@ -17,8 +17,19 @@ use std::marker::Model;
 use svcb_pairs::{LimitedPairs, PushError};
 use wire_base::NoMemory;
 
-/// Parameters that were read, with values added, within a limit on the octets of all in wire form. The values that were
-/// read stay where they are; those that are added stand in one buffer.
+/// Parameters that were read, with values added, within a limit on the octets of all in wire form.
+///
+/// The values that were read are borrowed, and those that are added stand in one buffer: no value that was read is
+/// copied before [`compose`](Self::compose) writes all by ascending keys. As in a [builder](crate::SvcParamsBuilder),
+/// the first value under a key stays, and a refused push changes nothing.
+///
+/// ```
+/// let read = SvcParamsRef::from_slice(b"\x00\x03\x00\x02\x00\x35")?;
+/// let mut overlay = SvcParamsOverlay::new(alloc, &read, 100)?;
+/// overlay.push(&UnknownSvcParamRef::new(SvcParamKey::ECH, b"\xaa\xbb")?)?;
+/// let mut octets = Vec::new(alloc);
+/// overlay.compose(&mut octets)?;
+/// ```
 ///
 /// Contracts see the map with the limit as they see a builder's, and the count of octets in the buffer.
 #[derive(Debug, Drop)]
@@ -45,7 +56,7 @@ impl<'a> SvcParamsOverlay<'a> {
     /// An overlay of parameters, and its limit in octets, which is below 2^31.
     ///
     /// `ShortBuf`: the parameters have more octets in wire form than the limit, which is tested before any memory is
-    /// taken. `NoMemory`: the memory for the places of their values isn't there.
+    /// taken. `NoMemory`: allocation failed.
     pub fn new(
         alloc: Global,
         params: &SvcParamsRef<'a>,
@@ -111,7 +122,7 @@ impl<'a> SvcParamsOverlay<'a> {
 
     /// Appends the parameters in wire form, by ascending keys. Their room is made first.
     ///
-    /// `NoMemory`: the memory for the room isn't there. The target then stays.
+    /// `NoMemory`: allocation failed; the target is unchanged.
     pub fn compose(&self, target: &mut Vec<u8>) -> Result<(), NoMemory>
         ensures appends { AppendsOctets target.old.items target.new.items
             (wire self.now.builder.pairs) result }

@@ -20,8 +20,26 @@ use svcb_pairs::check;
 use svcb_text::AllValuesRef;
 use wire_base::{NoMemory, Octets, ParseError, Parser};
 
-/// Service parameters in wire form, by ascending keys (RFC 9460, section 2.2). Contracts see the map from keys to octets,
-/// as the list of its pairs by ascending keys. Parameters are compared by their octets.
+/// Service parameters: an ordered map from keys to values, in wire form (RFC 9460, section 2.2).
+///
+/// A parameter is its key and the length of its value, two octets each, and then the value. The parameters stand one
+/// after another by strictly ascending keys, so each key occurs once, and equal parameters have equal octets. A value
+/// may be any octets: whether they are a value of their key's type is tested when it is asked for, by a getter such
+/// as [`port`](Self::port) or by [`iter_all`](Self::iter_all).
+///
+/// ```
+/// let params = SvcParams::from_values(alloc, |builder: &mut SvcParamsBuilder| {
+///     builder.ohttp()?;
+///     builder.port(53)
+/// })?;
+/// assert_eq!(rt; params.as_slice(), b"\x00\x03\x00\x02\x00\x35\x00\x08\x00\x00".as_slice());
+/// assert_eq!(rt; params.port().map(|port| port.port()), Some(53));
+/// ```
+///
+/// A [builder](crate::SvcParamsBuilder) takes values in any order, [`parse`](Self::parse) reads parameters,
+/// [`scan`](Self::scan) takes them from text, and [`SvcParamsRef`] is the view of parameters that are borrowed.
+/// Parameters are compared by their octets. Contracts see the map, as the list of its pairs of a key and octets by
+/// ascending keys.
 #[derive(Debug, PartialEq, Eq, PartialOrd, Ord, Hash, Drop)]
 pub struct SvcParams {
     octets: Octets,
@@ -52,7 +70,7 @@ impl SvcParams {
         SvcParams { octets }
     }
 
-    /// No parameters. No memory is taken.
+    /// No parameters. Takes no memory.
     #[tactic(auto, using(svcb_pairs::proofs::Reading::reading_rules))]
     pub fn empty(alloc: Global) -> SvcParams
         ensures { result ≡ [] }
@@ -60,10 +78,10 @@ impl SvcParams {
         SvcParams::from_checked_octets(Octets::from_vec(Vec::new(alloc)))
     }
 
-    /// The parameters that octets are, which are not copied; any count of octets is allowed. No memory is taken.
+    /// The parameters that octets are, which are not copied; any count of octets is allowed. Takes no memory.
     ///
-    /// The first fault in reading order refuses them, and they are dropped. `ShortInput`: a key, a length or a value runs
-    /// past the end. `Form`: a key is not above the one before it (RFC 9460, section 2.2).
+    /// The first fault in reading order refuses them, and they are dropped. `ShortInput`: a key, a length or a value
+    /// runs past the end. `Form`: a key is not above the one before it (RFC 9460, section 2.2).
     pub fn from_octets(octets: Octets) -> Result<SvcParams, SvcParamsError>
         ensures answer { MatchResult result
             (λ params. read_pairs octets ≡ Ok params)
@@ -77,9 +95,9 @@ impl SvcParams {
 
     /// The parameters that all octets before the end of the data are, with octets of their own.
     ///
-    /// The first fault in reading order refuses them; the parser then stays. `ShortInput`: a key, a length or a value
-    /// runs past the end. `Form`: a key is not above the one before it (RFC 9460, section 2.2). `NoMemory`: the octets
-    /// have no fault, and the memory for the copy isn't there.
+    /// The first fault in reading order refuses them; the parser is then unchanged. `ShortInput`: a key, a length or
+    /// a value runs past the end. `Form`: a key is not above the one before it (RFC 9460, section 2.2). `NoMemory`:
+    /// the octets have no fault, and allocation failed.
     #[tactic(auto, using(svcb_pairs::proofs::Reading::part_read))]
     pub fn parse(alloc: Global, parser: &mut Parser<'_>) -> Result<SvcParams, ParseError>
         ensures answer { GivesCopy (λ params. params) result (read_pairs (octets_left parser.old)) }
@@ -135,30 +153,31 @@ impl SvcParams {
         self.for_slice().is_empty()
     }
 
-    /// The values of all types, by ascending keys: [`iter`](Self::iter) of [`AllValuesRef`]. [`ValueIter`] says how to loop
-    /// over them. No memory is taken.
+    /// The values of all types, by ascending keys: [`iter`](Self::iter) of [`AllValuesRef`]. [`ValueIter`] says how
+    /// to loop over them. Takes no memory.
     pub fn iter_all(&self) -> ValueIter<'_, AllValuesRef<'_>>
         ensures { result ≡ self.now }
     {
         ValueIter::new(self.for_slice())
     }
 
-    /// All parameters by ascending keys, each as a key and octets. No memory is taken.
+    /// All parameters by ascending keys, each as a key and octets. Takes no memory.
     pub fn iter_raw(&self) -> RawIter<'_>
         ensures { result ≡ self.now }
     {
         RawIter::new(self.for_slice())
     }
 
-    /// The values of one type, by ascending keys: of each key that the type takes the value that its octets wholly are, or
-    /// the fault that they have. Ends after its first error. [`ValueIter`] says how to loop over them. No memory is taken.
+    /// The values of one type, by ascending keys: of each key that the type takes the value that its octets wholly
+    /// are, or the fault that they have. Ends after its first error. [`ValueIter`] says how to loop over them. Takes
+    /// no memory.
     pub fn iter<'s, V: ParseSvcParamValue<'s>>(&'s self) -> ValueIter<'s, V>
         ensures { result ≡ self.now }
     {
         ValueIter::new(self.for_slice())
     }
 
-    /// The first item of `iter`. None where there is none, or it is an error. No memory is taken.
+    /// The first item of `iter`. None where there is none, or it is an error. Takes no memory.
     pub fn first<'s, V: ParseSvcParamValue<'s>>(&'s self) -> Option<V>
         ensures { option_map V.seen result ≡ first_value (items V.takes V.reads self.now) }
     {
@@ -167,7 +186,7 @@ impl SvcParams {
 
     /// A copy.
     ///
-    /// `NoMemory`: the memory for it isn't there.
+    /// `NoMemory`: allocation failed.
     pub fn try_clone(&self, alloc: Global) -> Result<SvcParams, NoMemory>
         ensures { IfOk result (λ params. params ≡ self.now) }
     {
@@ -176,7 +195,7 @@ impl SvcParams {
 
     /// Appends the parameters in wire form.
     ///
-    /// `NoMemory`: the memory for them isn't there. The target's octets then stay.
+    /// `NoMemory`: allocation failed; the target's octets are unchanged.
     pub fn compose(&self, target: &mut Vec<u8>) -> Result<(), NoMemory>
         ensures appends { AppendsOctets target.old.items target.new.items (wire self.now) result }
     {

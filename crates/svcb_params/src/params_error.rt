@@ -5,8 +5,7 @@ ghost use Rattle.wire_base.specs.declared.errors.ParseError.TheVariants as error
 
 use wire_base::{ParseError, ShortInput};
 
-/// Octets are no service parameters, by the fault that it holds. It never holds a failed allocation where a call of this
-/// crate answers it.
+/// The fault for which octets are no service parameters. No call of this crate fails with one that holds `NoMemory`.
 #[derive(Clone, Copy, Debug, PartialEq, Eq)]
 pub struct SvcParamsError(pub ParseError);
 

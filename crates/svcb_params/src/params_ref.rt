@@ -14,8 +14,20 @@ use svcb_text::AllValuesRef;
 use svcb_value::parameter::split_param;
 use wire_base::{NoMemory, Octets, ParseError, Parser};
 
-/// A view of service parameters in wire form, by ascending keys, which stay where they are (RFC 9460, section 2.2).
-/// Views are compared by their octets.
+/// Borrowed service parameters in wire form: an ordered map from keys to values, as [`SvcParams`] says
+/// (RFC 9460, section 2.2).
+///
+/// The octets are tested once, when the view is made, and stay where they are. No call of a view takes memory, apart
+/// from [`to_owned_data`](Self::to_owned_data) and [`compose`](Self::compose).
+///
+/// ```
+/// let params = SvcParamsRef::from_slice(b"\x00\x03\x00\x02\x00\x35")?;
+/// for param in params.iter_raw() {
+///     println!(rt; "{param}")?;
+/// }
+/// ```
+///
+/// Views are compared by their octets. Contracts see the octets, and the pairs in them by `seen_params`.
 #[derive(Clone, Copy, Debug, PartialEq, Eq, PartialOrd, Ord, Hash)]
 pub struct SvcParamsRef<'a> {
     /// The octets in wire form.
@@ -33,10 +45,10 @@ impl<'a> SvcParamsRef<'a> {
     ghost use Rattle.svcb_params.specs.ParamsView.{seen_params};
     ghost use Rattle.svcb_params.specs.Items.{items, first_value};
 
-    /// A view of the parameters that octets are; any count of octets is allowed. No memory is taken.
+    /// A view of the parameters that octets are; any count of octets is allowed. Takes no memory.
     ///
-    /// The first fault in reading order refuses them. `ShortInput`: a key, a length or a value runs past the end. `Form`:
-    /// a key is not above the one before it (RFC 9460, section 2.2).
+    /// The first fault in reading order refuses them. `ShortInput`: a key, a length or a value runs past the end.
+    /// `Form`: a key is not above the one before it (RFC 9460, section 2.2).
     pub fn from_slice(slice: &'a [u8]) -> Result<SvcParamsRef<'a>, SvcParamsError>
         ensures answer { MatchResult result
             (λ view. read_pairs slice.now ≡ Ok (seen_params view))
@@ -47,11 +59,11 @@ impl<'a> SvcParamsRef<'a> {
         Ok(SvcParamsRef { slice })
     }
 
-    /// A view of the parameters that all octets before the end of the data are. No memory is taken, so `NoMemory` never
-    /// comes.
+    /// A view of the parameters that all octets before the end of the data are. Takes no memory, so never fails with
+    /// `NoMemory`.
     ///
-    /// The first fault in reading order refuses them; the parser then stays. `ShortInput`: a key, a length or a value
-    /// runs past the end. `Form`: a key is not above the one before it (RFC 9460, section 2.2).
+    /// The first fault in reading order refuses them; the parser is then unchanged. `ShortInput`: a key, a length or
+    /// a value runs past the end. `Form`: a key is not above the one before it (RFC 9460, section 2.2).
     #[tactic(auto, using(svcb_pairs::proofs::Reading::part_read))]
     pub fn parse(parser: &mut Parser<'a>) -> Result<SvcParamsRef<'a>, ParseError>
         ensures answer { Gives seen_params result (read_pairs (octets_left parser.old)) }
@@ -101,30 +113,31 @@ impl<'a> SvcParamsRef<'a> {
         self.slice.is_empty()
     }
 
-    /// The values of all types, by ascending keys: [`iter`](Self::iter) of [`AllValuesRef`]. [`ValueIter`] says how to loop
-    /// over them. No memory is taken.
+    /// The values of all types, by ascending keys: [`iter`](Self::iter) of [`AllValuesRef`]. [`ValueIter`] says how
+    /// to loop over them. Takes no memory.
     pub fn iter_all(&self) -> ValueIter<'_, AllValuesRef<'_>>
         ensures { result ≡ seen_params self.now }
     {
         ValueIter::new(*self)
     }
 
-    /// All parameters by ascending keys, each as a key and octets. No memory is taken.
+    /// All parameters by ascending keys, each as a key and octets. Takes no memory.
     pub fn iter_raw(&self) -> RawIter<'a>
         ensures { result ≡ seen_params self.now }
     {
         RawIter::new(*self)
     }
 
-    /// The values of one type, by ascending keys: of each key that the type takes the value that its octets wholly are, or
-    /// the fault that they have. Ends after its first error. [`ValueIter`] says how to loop over them. No memory is taken.
+    /// The values of one type, by ascending keys: of each key that the type takes the value that its octets wholly
+    /// are, or the fault that they have. Ends after its first error. [`ValueIter`] says how to loop over them. Takes
+    /// no memory.
     pub fn iter<'s, V: ParseSvcParamValue<'s>>(&'s self) -> ValueIter<'s, V>
         ensures { result ≡ seen_params self.now }
     {
         ValueIter::new(*self)
     }
 
-    /// The first item of `iter`. None where there is none, or it is an error. No memory is taken.
+    /// The first item of `iter`. None where there is none, or it is an error. Takes no memory.
     pub fn first<'s, V: ParseSvcParamValue<'s>>(&'s self) -> Option<V>
         ensures { option_map V.seen result
             ≡ first_value (items V.takes V.reads (seen_params self.now)) }
@@ -134,7 +147,7 @@ impl<'a> SvcParamsRef<'a> {
 
     /// The same parameters with octets of their own.
     ///
-    /// `NoMemory`: the memory for them isn't there.
+    /// `NoMemory`: allocation failed.
     pub fn to_owned_data(&self, alloc: Global) -> Result<SvcParams, NoMemory>
         ensures { IfOk result (λ params. params ≡ seen_params self.now) }
     {
@@ -143,7 +156,7 @@ impl<'a> SvcParamsRef<'a> {
 
     /// Appends the parameters in wire form.
     ///
-    /// `NoMemory`: the memory for them isn't there. The target's octets then stay.
+    /// `NoMemory`: allocation failed; the target's octets are unchanged.
     pub fn compose(&self, target: &mut Vec<u8>) -> Result<(), NoMemory>
         ensures appends { AppendsOctets target.old.items target.new.items
             (wire (seen_params self.now)) result }

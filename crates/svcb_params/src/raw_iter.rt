@@ -1,7 +1,8 @@
 //! All service parameters, whatever their types.
 
-ghost use Rattle.std.specs.Prelude.{◌≡◌};
+ghost use Rattle.std.specs.Prelude.{◌≡◌, ◌<◌, ℕ};
 ghost use Rattle.std.specs.Iterator.{YieldsFirstBy, item_count};
+ghost use Rattle.svcb_spec.specs.PrintedParams.{holds_key};
 ghost use Rattle.svcb_value.specs.UnknownView.{seen_unknown};
 ghost use Rattle.svcb_params.specs.ParamsView.{seen_params};
 ghost use Rattle.svcb_params.specs.Items.{raw_values};
@@ -11,7 +12,8 @@ use registry::SvcParamKey;
 use std::marker::Model;
 use svcb_value::UnknownSvcParamRef;
 
-/// All parameters by ascending keys, each as a key and octets. Contracts see the pairs that are left.
+/// All parameters by ascending keys, each as a key and octets, whatever the octets are. Takes no memory. Contracts see
+/// the pairs that are left.
 ///
 /// Count the items by `saturating_add` in a loop, since `count()` asks its caller for a bound.
 #[derive(Clone, Debug, Drop)]
@@ -34,6 +36,25 @@ impl<'a> RawIter<'a> {
         ensures { result ≡ seen_params params.entry }
     {
         RawIter { rest: params }
+    }
+
+    /// Passes over the pairs up to a key, and tells whether one of them has it.
+    #[tactic(auto, using(crate::proofs::HeldKeys::passing_rules))]
+    pub(crate) fn pass_to(&mut self, key: u16) -> bool
+        ensures found { result ≡ holds_key self.old key }
+        ensures behind { (above : ℕ) → key < above
+            → holds_key self.new above ≡ holds_key self.old above }
+    {
+        while let Some((passed, _, rest)) = self.rest.split_first() {
+            if passed > key {
+                return false;
+            }
+            self.rest = rest;
+            if passed == key {
+                return true;
+            }
+        }
+        false
     }
 }
 

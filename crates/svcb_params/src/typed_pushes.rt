@@ -31,7 +31,7 @@ fn alpn_of(alloc: Global, protocols: &[Octets]) -> Result<Alpn, BuildAlpnError>
 impl SvcParamsBuilder {
     /// Adds `no-default-alpn` (RFC 9460, section 7.1.1).
     ///
-    /// Refused as [`push`](Self::push) is; the builder then stays.
+    /// Refused as [`push`](Self::push) is; the builder is then unchanged.
     pub fn no_default_alpn(&mut self) -> Result<(), PushError>
         ensures { PushesValue self.old self.new values.NoDefaultAlpn result (IsPushAnswer result) }
     {
@@ -40,7 +40,7 @@ impl SvcParamsBuilder {
 
     /// Adds `port` (RFC 9460, section 7.2).
     ///
-    /// Refused as [`push`](Self::push) is; the builder then stays.
+    /// Refused as [`push`](Self::push) is; the builder is then unchanged.
     pub fn port(&mut self, port: u16) -> Result<(), PushError>
         ensures { PushesValue self.old self.new (values.Port port) result (IsPushAnswer result) }
     {
@@ -49,7 +49,7 @@ impl SvcParamsBuilder {
 
     /// Adds `ohttp` (RFC 9540, section 4).
     ///
-    /// Refused as [`push`](Self::push) is; the builder then stays.
+    /// Refused as [`push`](Self::push) is; the builder is then unchanged.
     pub fn ohttp(&mut self) -> Result<(), PushError>
         ensures { PushesValue self.old self.new values.Ohttp result (IsPushAnswer result) }
     {
@@ -58,7 +58,8 @@ impl SvcParamsBuilder {
 
     /// Adds `ech` (RFC 9460, section 14.3.2), the octets of an ECHConfigList.
     ///
-    /// `LongSvcParam`: it has more than 65,535 octets. Else refused as [`push`](Self::push) is. The builder then stays.
+    /// `LongSvcParam`: it has more than 65,535 octets. Else refused as [`push`](Self::push) is. The builder is then
+    /// unchanged.
     pub fn ech(&mut self, ech: &[u8]) -> Result<(), PushValueError>
         ensures { PushesValue self.old self.new (values.Ech ech.now) result
             (IsPushValueAnswer result (len_fault (length ech.now))) }
@@ -72,7 +73,7 @@ impl SvcParamsBuilder {
     /// Adds `dohpath` (RFC 9461, section 5).
     ///
     /// `LongSvcParam`: the template has more than 65,535 octets. Else refused as [`push`](Self::push) is. The builder
-    /// then stays.
+    /// is then unchanged.
     pub fn dohpath(&mut self, template: &str) -> Result<(), PushValueError>
         ensures { PushesValue self.old self.new (values.DohPath template.now) result
             (IsPushValueAnswer result (len_fault (length template.now))) }
@@ -83,8 +84,8 @@ impl SvcParamsBuilder {
 
     /// Adds `mandatory` (RFC 9460, section 8), two octets a key.
     ///
-    /// `LongSvcParam`: there are more than 32,767 keys. Else refused as [`push`](Self::push) is. The builder then
-    /// stays.
+    /// `LongSvcParam`: there are more than 32,767 keys. Else refused as [`push`](Self::push) is. The builder is then
+    /// unchanged.
     pub fn mandatory(&mut self, keys: &[SvcParamKey]) -> Result<(), PushValueError>
         ensures { PushesValue self.old self.new (values.Mandatory keys.now) result
             (IsPushValueAnswer result (len_fault (length keys.now * 2))) }
@@ -95,8 +96,8 @@ impl SvcParamsBuilder {
 
     /// Adds `ipv4hint` (RFC 9460, section 7.3), four octets an address.
     ///
-    /// `LongSvcParam`: there are more than 16,383 addresses. Else refused as [`push`](Self::push) is. The builder then
-    /// stays.
+    /// `LongSvcParam`: there are more than 16,383 addresses. Else refused as [`push`](Self::push) is. The builder is
+    /// then unchanged.
     pub fn ipv4hint(&mut self, addrs: &[Ipv4Addr]) -> Result<(), PushValueError>
         ensures { PushesValue self.old self.new (values.Ipv4Hint addrs.now) result
             (IsPushValueAnswer result (len_fault (length addrs.now * 4))) }
@@ -107,8 +108,8 @@ impl SvcParamsBuilder {
 
     /// Adds `ipv6hint` (RFC 9460, section 7.3), 16 octets an address.
     ///
-    /// `LongSvcParam`: there are more than 4,095 addresses. Else refused as [`push`](Self::push) is. The builder then
-    /// stays.
+    /// `LongSvcParam`: there are more than 4,095 addresses. Else refused as [`push`](Self::push) is. The builder is
+    /// then unchanged.
     pub fn ipv6hint(&mut self, addrs: &[Ipv6Addr]) -> Result<(), PushValueError>
         ensures { PushesValue self.old self.new (values.Ipv6Hint addrs.now) result
             (IsPushValueAnswer result (len_fault (length addrs.now * 16))) }
@@ -120,7 +121,7 @@ impl SvcParamsBuilder {
     /// Adds `tls-supported-groups` (IANA's registry), two octets a group.
     ///
     /// `EmptyValue`: there are no groups. `LongSvcParam`: there are more than 32,767. Else refused as
-    /// [`push`](Self::push) is. The builder then stays.
+    /// [`push`](Self::push) is. The builder is then unchanged.
     pub fn tls_supported_groups(&mut self, groups: &[u16]) -> Result<(), PushValueError>
         ensures { PushesValue self.old self.new (values.TlsSupportedGroups groups.now) result
             (IsPushValueAnswer result (groups_len_fault (length groups.now * 2))) }
@@ -133,8 +134,8 @@ impl SvcParamsBuilder {
     ///
     /// The first fault of the protocols in their order refuses them; a failed allocation may come before it.
     /// `InvalidProtocol`: a name has no octets or more than 255. `LongSvcParam`: with this protocol and its octet of
-    /// length the value would have more than 65,535 octets. Else refused as [`push`](Self::push) is. The builder then
-    /// stays.
+    /// length the value would have more than 65,535 octets. Else refused as [`push`](Self::push) is. The builder is
+    /// then unchanged.
     pub fn alpn(&mut self, protocols: &[Octets]) -> Result<(), PushAlpnError>
         ensures { PushesValue self.old self.new (values.Alpn protocols.now) result
             (IsPushAlpnAnswer result (alpn_fault protocols.now)) }

@@ -11,8 +11,9 @@ use std::marker::{Model, PhantomData};
 use svcb_text::parse_wholly;
 use wire_base::ParseError;
 
-/// The values of one type, by ascending keys: the octets under each key that the type takes are to be wholly a value.
-/// Ends after its first error. No memory is taken. Contracts see the pairs that are left.
+/// The values of one type among parameters, by ascending keys: of each key that the type takes the value that its octets
+/// wholly are, or the fault that they have. Ends after its first error. Takes no memory. Contracts see the pairs that are
+/// left.
 ///
 /// An item is taken apart by `match &item`, by `Ok(value) => match value`, by `let Ok(value) = item else`, or by
 /// `while let Some(Ok(value)) = values.next()`:
@@ -30,8 +31,8 @@ use wire_base::ParseError;
 ///
 /// These forms get a proof; `item?`, and a pattern such as `Ok(AllValuesRef::Port(port))` on the item itself, do not.
 /// An iterator of a view lasts as long as the view, so bind what `params()` of record data gives first:
-/// `let params = record.params();`. Count the items by `saturating_add` in a loop, since `count()` asks its caller
-/// for a bound.
+/// `let params = record.params();`. Count the items by `saturating_add` in a loop, since `count()` asks its caller for
+/// a bound.
 #[derive(Drop)]
 #[derive_where(Clone, Debug)]
 pub struct ValueIter<'s, V> {

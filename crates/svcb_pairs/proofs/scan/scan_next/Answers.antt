@@ -17,7 +17,7 @@ returns g c =
     subst (λ (r : Result (List ℕ) ScanError). Scans (λ octets. octets) (one any_octets) old mid r)
     c.in_ok-token.was c.scan_octets.ensures in
     let keeps : KeepsToken c.in_ok-token.token entries entries' c.rewind_unless_ok.result =
-    subst (λ (r : Result (Unit {0}) ScanError). KeepsToken c.in_ok-token.token entries entries' r)
+    subst (λ (r : Result ℕ ScanError). KeepsToken c.in_ok-token.token entries entries' r)
     (sym c.rewind_unless_ok.ensures.outcome)
     (subst (λ (octets : List ℕ). KeepsToken octets entries entries' c.keep_token-outcome.result)
     c.as_slice.ensures c.keep_token-outcome.ensures) in

@@ -1,5 +1,0 @@
-use Rattle.svcb_pairs.proofs.Distinct.{none_met}
-use Rattle.svcb_pairs.proofs.number_set.NumberSet.new.Goals as goal
-
-pub returns : goal.returns
-returns c = none_met 1024
