@@ -1,7 +1,8 @@
 //! The texts of addresses, and of data of any type (RFC 3597, section 5; RFC 4291, section 2.2; RFC 5952).
 
-use dns_text::{Entry, EntryScanner, ScanError, Scanner, scan_a, scan_aaaa, scan_unknown};
+use dns_text::{Entry, EntryScanner, Scanner, scan_a, scan_aaaa, scan_unknown};
 use std::alloc::Global;
+use text_spec::ScanError;
 use wire_base::{Ipv4Addr, Ipv6Addr, Octets, Rtype};
 use wire_records::UnknownRecordData;
 

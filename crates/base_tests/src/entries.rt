@@ -1,7 +1,8 @@
 //! Entries: their tokens, and the faults of texts that are none (RFC 1035, section 5.1).
 
-use dns_text::{Entry, EntryScanner, ScanError, Scanner};
+use dns_text::{Entry, EntryScanner, Scanner};
 use std::alloc::Global;
+use text_spec::ScanError;
 
 /// Texts, and the octets of their tokens.
 const ENTRIES: [(&[u8], &[&[u8]]); 12] = [

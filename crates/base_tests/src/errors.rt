@@ -1,6 +1,6 @@
 //! The texts of errors of scanning.
 
-use dns_text::ScanError;
+use text_spec::ScanError;
 
 /// Each error and its text.
 const TEXTS: [(ScanError, &str); 32] = [

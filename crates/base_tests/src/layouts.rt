@@ -1,9 +1,10 @@
 //! Layouts: what the writing calls write in each kind.
 
-use dns_text::{DisplayKind, Formatter, display_zonefile};
+use dns_text::{Formatter, display_zonefile};
 use key_registry::SecurityAlgorithm;
 use registry::SvcParamKey;
 use std::alloc::Global;
+use text_spec::DisplayKind;
 use wire_base::{Ipv4Addr, Name, NoMemory, Octets, ParseError, Rtype};
 use wire_records::{A, Serial, UnknownRecordData};
 

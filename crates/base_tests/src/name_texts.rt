@@ -1,7 +1,8 @@
 //! The texts of names and of octets (RFC 1035, section 5.1).
 
-use dns_text::{Entry, EntryScanner, ScanError, Scanner};
+use dns_text::{Entry, EntryScanner, Scanner};
 use std::alloc::Global;
+use text_spec::ScanError;
 use wire_base::{Name, Octets, ParseError, PrintedOctets};
 
 /// The wire form of the name that a text's one token spells.

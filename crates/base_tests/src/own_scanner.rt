@@ -3,8 +3,9 @@
 ghost use Rattle.std.specs.Prelude.{◌≡◌, ◌≤◌, length, map};
 ghost use Rattle.text_spec.specs.Scanning.{Scan, Scans, one, is_marked};
 
-use dns_text::{ScanError, Scanner, Symbol, scan_unknown};
+use dns_text::{Scanner, scan_unknown};
 use std::alloc::Global;
+use text_spec::{ScanError, Symbol};
 use wire_base::{Octets, Rtype};
 
 /// Tokens, and how many of them are taken.

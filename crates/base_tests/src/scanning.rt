@@ -1,8 +1,9 @@
 //! The calls of a scanner: their answers, and where it stands after a refusal.
 
-use dns_text::{Entry, EntryScanner, ScanError, Scanner, Symbol};
+use dns_text::{Entry, EntryScanner, Scanner};
 use registry::{IanaNumber, SvcParamKey};
 use std::alloc::Global;
+use text_spec::{ScanError, Symbol};
 
 /// Texts, and the number of 16 bits that their first token spells.
 const NUMBERS: [(&[u8], Result<u16, ScanError>); 11] = [

@@ -17,5 +17,4 @@ pub use entry::Entry;
 pub use entry_scanner::EntryScanner;
 pub use formatter::Formatter;
 pub use scanner::Scanner;
-pub use text_spec::{DisplayKind, ScanError, Symbol};
 pub use zonefile::{ZonefileFmt, display_zonefile};

@@ -1,10 +1,11 @@
 //! The greatest IPSECKEY data.
 
 use crate::limits::filled;
-use dns_text::{Entry, EntryScanner, ScanError};
+use dns_text::{Entry, EntryScanner};
 use key_rdata::{Ipseckey, IpseckeyGateway};
 use key_registry::IpseckeyAlgorithm;
 use std::alloc::Global;
+use text_spec::ScanError;
 use wire_base::{ComposeRecordData, NoMemory, Octets, ParseError, Parser};
 
 /// The count of octets of the data whose text has so many letters of base64 between others.

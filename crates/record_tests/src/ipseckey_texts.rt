@@ -1,9 +1,10 @@
 //! IPSECKEY data as text (RFC 4025, section 3).
 
-use dns_text::{DisplayKind, Entry, EntryScanner, ScanError, Scanner, display_zonefile};
+use dns_text::{Entry, EntryScanner, Scanner, display_zonefile};
 use key_rdata::{Ipseckey, IpseckeyGateway};
 use key_registry::IpseckeyGatewayType;
 use std::alloc::Global;
+use text_spec::{DisplayKind, ScanError};
 use wire_base::ComposeRecordData;
 
 /// The data of the one entry of a text.

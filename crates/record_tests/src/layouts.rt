@@ -1,11 +1,12 @@
 //! Data of each type of record, laid out in each kind.
 
 use digest_rdata::{Cds, Sshfp, Tlsa, Zonemd};
-use dns_text::{DisplayKind, ZonefileFmt, display_zonefile};
+use dns_text::{ZonefileFmt, display_zonefile};
 use key_rdata::{Cdnskey, Ipseckey, Openpgpkey};
 use rdata_union::{AllRecordData, ZoneRecordData};
 use std::alloc::Global;
 use svcb_rdata::{Https, Svcb};
+use text_spec::DisplayKind;
 use wire_base::{NoMemory, ParseError, ParseRecordData, Parser, Rtype};
 use wire_records::{A, Aaaa, UnknownRecordData};
 

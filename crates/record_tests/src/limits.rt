@@ -4,13 +4,14 @@ use digest_rdata::{
     AssociationData, AssociationFields, Cds, CdsFields, Sshfp, SshfpFields, Tlsa, TlsaFields,
     Zonemd, ZonemdFields,
 };
-use dns_text::{Entry, EntryScanner, ScanError};
+use dns_text::{Entry, EntryScanner};
 use key_rdata::{Cdnskey, Openpgpkey, OpenpgpkeyFields};
 use key_registry::{
     DigestAlgorithm, SecurityAlgorithm, SshfpAlgorithm, SshfpType, TlsaCertificateUsage,
     TlsaMatchingType, TlsaSelector, ZonemdAlgorithm, ZonemdScheme,
 };
 use std::alloc::Global;
+use text_spec::ScanError;
 use wire_base::{ComposeRecordData, LongRecordData, NoMemory, Octets, ParseError, Parser};
 use wire_records::Serial;
 

@@ -1,8 +1,9 @@
 //! Data behind the marker of any type, and the faults of texts.
 
-use dns_text::{Entry, EntryScanner, ScanError, Scanner};
+use dns_text::{Entry, EntryScanner, Scanner};
 use rdata_union::ZoneRecordData;
 use std::alloc::Global;
+use text_spec::ScanError;
 use wire_base::{ComposeRecordData, NoMemory, Rtype};
 
 /// What a text is scanned as under a type number, and how many tokens are taken then.

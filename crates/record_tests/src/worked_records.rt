@@ -3,10 +3,11 @@
 use digest_rdata::{
     AssociationData, AssociationFields, Cds, CdsFields, SshfpFields, TlsaFields, ZonemdFields,
 };
-use dns_text::{DisplayKind, Entry, EntryScanner, ScanError, Scanner, display_zonefile};
+use dns_text::{Entry, EntryScanner, Scanner, display_zonefile};
 use key_rdata::{CdnskeyFields, OpenpgpkeyFields};
 use key_registry::{DigestAlgorithm, SecurityAlgorithm};
 use std::alloc::Global;
+use text_spec::{DisplayKind, ScanError};
 use wire_base::{
     ComposeRecordData, Octets, ParseError, ParseRecordData, Parser, RecordData, Rtype,
 };

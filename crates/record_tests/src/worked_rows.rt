@@ -1,9 +1,10 @@
 //! A row for each type: its text, its octets and what is printed.
 
-use dns_text::{DisplayKind, Entry, EntryScanner, ScanError, ZonefileFmt, display_zonefile};
+use dns_text::{Entry, EntryScanner, ZonefileFmt, display_zonefile};
 use rdata_union::{AllRecordData, ZoneRecordData};
 use std::alloc::Global;
 use std::fmt::Display;
+use text_spec::{DisplayKind, ScanError};
 use wire_base::{
     ComposeRecordData, NoMemory, ParseError, ParseRecordData, Parser, RecordData, Rtype,
 };

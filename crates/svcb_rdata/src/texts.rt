@@ -8,10 +8,11 @@ ghost use Rattle.svcb_spec.specs.DataDocumentLaws.{document-svcb};
 ghost use Rattle.svcb_rdata.specs.Texts.{ReadsBack};
 
 use crate::rdata::SvcbRdata;
-use dns_text::{Formatter, ScanError, Scanner, ZonefileFmt};
+use dns_text::{Formatter, Scanner, ZonefileFmt};
 use std::alloc::Global;
 use std::fmt;
 use svcb_params::SvcParams;
+use text_spec::ScanError;
 use wire_base::NoMemory;
 
 impl<V> SvcbRdata<V> {

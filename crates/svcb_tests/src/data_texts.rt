@@ -1,8 +1,9 @@
 //! Record data as text, scanned, printed and laid out.
 
-use dns_text::{DisplayKind, Entry, EntryScanner, ScanError, Scanner, display_zonefile};
+use dns_text::{Entry, EntryScanner, Scanner, display_zonefile};
 use std::alloc::{AllocError, Global};
 use svcb_rdata::{Https, Svcb};
+use text_spec::{DisplayKind, ScanError};
 use wire_base::{ComposeRecordData, NoMemory, ParseError, Parser};
 
 /// Scans the data that a text's tokens spell, and tests that no token is left.

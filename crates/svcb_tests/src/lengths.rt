@@ -1,9 +1,10 @@
 //! The longest record data: 65,535 octets (RFC 1035, section 3.2.1), scanned, read and made.
 
-use dns_text::{Entry, EntryScanner, ScanError, Scanner};
+use dns_text::{Entry, EntryScanner, Scanner};
 use std::alloc::Global;
 use svcb_params::SvcParams;
 use svcb_rdata::{Svcb, SvcbRef, SvcbVariant};
+use text_spec::ScanError;
 use wire_base::{ComposeRecordData, LongRecordData, Name, NoMemory, ParseError, Parser};
 
 /// A count of octets of data that was scanned, or a fault; and how many tokens are taken then.

@@ -1,8 +1,9 @@
 //! Parameters scanned from the tokens of an entry, in any order (RFC 9460, section 2.1).
 
-use dns_text::{Entry, EntryScanner, ScanError, Scanner};
+use dns_text::{Entry, EntryScanner, Scanner};
 use std::alloc::Global;
 use svcb_params::SvcParams;
+use text_spec::ScanError;
 
 /// A scan of parameters, and how many tokens of the entry are taken then.
 type Found = (Result<SvcParams, ScanError>, usize);

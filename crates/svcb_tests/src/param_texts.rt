@@ -1,8 +1,9 @@
 //! Parameters as text.
 
-use dns_text::{DisplayKind, display_zonefile};
+use dns_text::display_zonefile;
 use std::alloc::{AllocError, Global};
 use svcb_params::{SvcParams, SvcParamsRef};
+use text_spec::DisplayKind;
 use wire_base::{Octets, ParseError};
 
 /// Octets of parameters, and their text.

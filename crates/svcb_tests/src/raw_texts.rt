@@ -1,8 +1,9 @@
 //! Record data whose text is that of any octets, shown and scanned back (RFC 9460, section 2.1).
 
-use dns_text::{Entry, EntryScanner, ScanError, Scanner};
+use dns_text::{Entry, EntryScanner, Scanner};
 use std::alloc::Global;
 use svcb_rdata::Svcb;
+use text_spec::ScanError;
 use wire_base::{ComposeRecordData, NoMemory, Parser};
 
 /// Octets of data in which a pair has no text of its type that gives it back, and their text.

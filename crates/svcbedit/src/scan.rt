@@ -7,9 +7,10 @@ ghost use Rattle.svcbedit.specs.ReportView.{answer_view};
 ghost use Rattle.svcbedit.specs.Scan.{entry_scanned, due_of_scan};
 
 use crate::report::{Answer, Outcome, octets_answer};
-use dns_text::{Entry, EntryScanner, ScanError};
+use dns_text::{Entry, EntryScanner};
 use rdata_union::ZoneRecordData;
 use std::alloc::Global;
+use text_spec::ScanError;
 use wire_base::{ComposeRecordData, NoMemory, Rtype};
 
 /// The data of a type that a text spells.

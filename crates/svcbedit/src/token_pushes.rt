@@ -4,10 +4,11 @@ ghost use Rattle.std.specs.Option.{option_map};
 ghost use Rattle.svcb_text.specs.AllValues.{value_of};
 ghost use Rattle.svcbedit.specs.TokenPushes.{lone_token, token_push, ReadsAs};
 
-use dns_text::{Entry, EntryScanner, ScanError, Scanner};
+use dns_text::{Entry, EntryScanner, Scanner};
 use std::alloc::Global;
 use svcb_rdata::AllValues;
 use svcb_text::scan_param;
+use text_spec::ScanError;
 use wire_base::{NoMemory, Octets};
 
 /// The octets of the token of a line that is an entry with exactly one.
