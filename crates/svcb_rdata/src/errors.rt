@@ -19,7 +19,7 @@ pub enum RebuildError {
     /// The rebuilt record data would have more than 65,535 octets.
     #[error("long record data")]
     LongRecordData,
-    /// The memory for the result isn't there.
+    /// Allocation for the result failed.
     #[error("want of memory")]
     NoMemory,
 }

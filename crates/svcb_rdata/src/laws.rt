@@ -14,8 +14,8 @@ use crate::rebuild::read_record;
 use svcb_params::RawIter;
 use wire_base::ParseError;
 
-/// A typed value that was accepted is what its type reads from the final map, as the getters of `SvcParams` and its view
-/// do, whatever malformed values the parameters held. The function does nothing when it runs.
+/// A typed value that was accepted is what its type reads from the final map, as the getters of `SvcParams` and its
+/// view do, whatever malformed values the parameters held. The function does nothing when it runs.
 pub fn accepted_read()
     ensures { AcceptedRead }
 {}
@@ -36,8 +36,8 @@ fn are_octets(octets: &[u8])
     ensures { AreOctets octets.now }
 {}
 
-/// All parameters of octets that are record data as a whole, by ascending keys: of data that was rebuilt each pair of the
-/// final map once.
+/// All parameters of octets that are record data as a whole, by ascending keys: of data that was rebuilt each pair of
+/// the final map once.
 ///
 /// `ShortInput`: the data ends within a part of it. `Form`: it is no record data otherwise, as `SvcbRef::parse` says.
 pub fn raw_pairs(octets: &[u8]) -> Result<RawIter<'_>, ParseError>

@@ -18,10 +18,22 @@ use wire_base::{
     Parser, RecordData, Rtype,
 };
 
-/// The data of a record of the type that `V` marks (RFC 9460, section 2.2), at most 65,535 octets. Contracts see its
-/// priority, the labels of its target, and its parameters.
+/// The data of an SVCB or HTTPS record (RFC 9460, section 2.2): a priority, a target name, and parameters.
 ///
-/// Data is compared by priority, then target, ASCII case ignored, then parameters by their octets.
+/// Priority 0 is alias mode: the target is another name for the owner. Any other is service mode: the target is an
+/// endpoint, which the parameters describe. In wire form these are two octets of priority, the target uncompressed, and
+/// the parameters, at most 65,535 octets in all. `V` marks the record type: the data of SVCB is [`Svcb`], that of HTTPS
+/// [`Https`]. [`SvcbRef`] is a view of the data in a message.
+///
+/// ```
+/// let target = Name::from_octets(Octets::from_slice(alloc, b"\x03foo\x07example\x03com\x00")?)?;
+/// let record = Https::new(1, target, params)?;
+/// let mut octets = Vec::new(alloc);
+/// record.compose_rdata(&mut octets)?;
+/// ```
+///
+/// Data is compared by priority, then target, ASCII case ignored, then parameters by their octets. Contracts see the
+/// priority, the labels of the target, and the parameters.
 #[derive(Drop)]
 pub struct SvcbRdata<V> {
     priority: u16,
@@ -73,7 +85,7 @@ impl<V> SvcbRdata<V> {
         }
     }
 
-    /// The record data of its parts. No memory is taken.
+    /// The record data of its parts. Takes no memory.
     ///
     /// `LongRecordData`: it would have more than 65,535 octets. The parts are then dropped.
     pub fn new(
@@ -90,10 +102,11 @@ impl<V> SvcbRdata<V> {
         Ok(SvcbRdata::from_checked_parts(priority, target, params))
     }
 
-    /// Reads the record data in all octets before the end of the data, and copies it. Its target is then uncompressed.
+    /// Reads the record data in all octets before the end of the data, and copies it. Its target is then
+    /// uncompressed.
     ///
     /// `ShortInput`, `Form`: the first fault of the data, as [`SvcbRef::parse`] tells it. `NoMemory`: the data has no
-    /// fault, and the memory for the copy isn't there. The parser then stays.
+    /// fault, and allocation failed. The parser is then unchanged.
     pub fn parse(alloc: Global, parser: &mut Parser<'_>) -> Result<SvcbRdata<V>, ParseError>
         ensures answer { GivesCopy (λ found. found) result (next_record parser.old) }
         ensures takes { TakesAll parser.old parser.new result }
@@ -140,7 +153,7 @@ impl<V> SvcbRdata<V> {
 
     /// A copy.
     ///
-    /// `NoMemory`: the memory for it isn't there.
+    /// `NoMemory`: allocation failed.
     pub fn try_clone(&self, alloc: Global) -> Result<SvcbRdata<V>, NoMemory>
         ensures { IfOk result (λ copy. copy ≡ self.now) }
     {

@@ -63,7 +63,7 @@ fn push_all(
     Ok(Replies::from_vec(replies))
 }
 
-/// Reads the record data in the `len` octets from `start` on. Refused by its first fault. No memory is taken.
+/// Reads the record data in the `len` octets from `start` on. Refused by its first fault. Takes no memory.
 #[tactic(auto, using(crate::proofs::Records::read_here))]
 pub(crate) fn read_record(
     message: &[u8],
@@ -136,13 +136,13 @@ fn add_pushes(
 }
 
 /// Reads the SVCB or HTTPS record data in the `len` octets from `start` on, and adds the pushes to its parameters in
-/// order, within a limit on the octets of all parameters in wire form (RFC 9460, section 2.2). A push may be refused; its
-/// reply says so, and the next one is tried.
+/// order, within a limit on the octets of all parameters in wire form (RFC 9460, section 2.2). A push may be refused;
+/// its reply says so, and the next one is tried.
 ///
 /// `Parse(ShortInput)`, `Parse(Form)`: the first fault of the data, as [`SvcbRef::parse`] tells it. `ShortBuf`: the
 /// parameters that were read have more octets than the limit. These are tested before any memory is taken.
-/// `LongRecordData`: the result would have more than 65,535 octets. `NoMemory`: the memory for the result isn't there; it
-/// may come in place of the result or of `LongRecordData`. No reply is given where nothing is rebuilt.
+/// `LongRecordData`: the result would have more than 65,535 octets. `NoMemory`: allocation failed, which may come in
+/// place of the result or of `LongRecordData`. No reply is given where nothing is rebuilt.
 ///
 /// The clause `rebuilding` is the premise of the laws of `svcb_spec::laws` on what rebuilding leaves.
 #[tactic(auto, using(crate::proofs::Refusals::refusals), unfolding(svcb_spec::specs::Rebuilding::rebuild))]

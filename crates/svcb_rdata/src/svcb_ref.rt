@@ -12,8 +12,20 @@ use std::marker::{Model, PhantomData};
 use svcb_params::SvcParamsRef;
 use wire_base::{LongRecordData, NoMemory, ParseError, ParsedName, Parser};
 
-/// The data of an SVCB or HTTPS record in a message (RFC 9460, section 2.2), which stays where it is. Contracts see its
-/// priority, its target as a name in a message, and its parameters.
+/// A view of the data of an SVCB or HTTPS record in a message (RFC 9460, section 2.2): a priority, a target name, and
+/// parameters, as [`SvcbRdata`] says. `V` marks the record type.
+///
+/// The octets stay where they are, and the target may be compressed. Reading takes no memory.
+///
+/// ```
+/// let record = SvcbRef::<HttpsVariant>::parse(&mut parser)?;
+/// let params = record.params();
+/// if let Some(port) = params.port() {
+///     println!(rt; "{}", port.port())?;
+/// }
+/// ```
+///
+/// Contracts see the priority, the target as a name in a message, and the parameters.
 #[derive(Drop)]
 #[derive_where(Debug)]
 pub struct SvcbRef<'a, V> {
@@ -79,13 +91,14 @@ impl<'a, V> SvcbRef<'a, V> {
         found
     }
 
-    /// Reads the record data in all octets before the end of the data (RFC 9460, section 2.2). No memory is taken, so
-    /// `NoMemory` is never answered.
+    /// Reads the record data in all octets before the end of the data (RFC 9460, section 2.2). Takes no memory, so
+    /// never fails with `NoMemory`.
     ///
     /// `Form`: the data has more than 65,535 octets, which is tested first. Then the first fault along it decides:
-    /// `ShortInput` where it ends within the priority, the target, or a key, a length or a value; `Form` where the target
-    /// has that fault, as [`ParsedName::parse`] tells it, or a key isn't above the one before it. Last, `Form`: with its
-    /// target uncompressed the data would have more than 65,535 octets. The parser then stays.
+    /// `ShortInput` where it ends within the priority, the target, or a key, a length or a value; `Form` where the
+    /// target has that fault, as [`ParsedName::parse`] tells it, or a key isn't above the one before it. Last,
+    /// `Form`: with its target uncompressed the data would have more than 65,535 octets. The parser is then
+    /// unchanged.
     pub fn parse(parser: &mut Parser<'a>) -> Result<SvcbRef<'a, V>, ParseError>
         ensures answer { Gives record_of result (next_record parser.old) }
         ensures pointed { IfOk result
@@ -138,7 +151,7 @@ impl<'a, V> SvcbRef<'a, V> {
 
     /// The same record data by itself, its target uncompressed and in the same case.
     ///
-    /// `NoMemory`: the memory for the copy isn't there.
+    /// `NoMemory`: allocation failed.
     pub fn to_owned_data(&self, alloc: Global) -> Result<SvcbRdata<V>, NoMemory>
         ensures { IfOk result (λ owned. owned ≡ record_of self.now) }
     {

@@ -24,7 +24,7 @@ impl<V> SvcbRdata<V> {
     /// fault of the parameters: as [`SvcParams::scan`] has it. `LongRecord`: the data would have more than 65,535
     /// octets; at the entry's end. `NoMemory`: allocation failed; where the scan began.
     ///
-    /// Whatever the data, the tokens of its printed text are scanned as that data, or memory is wanting: no data is
+    /// Whatever the data, the tokens of its printed text are scanned as that data, or allocation fails: no data is
     /// left out.
     #[tactic(auto, using(crate::proofs::TextLemmas::reads_back))]
     pub fn scan<S: Scanner>(alloc: Global, scanner: &mut S) -> Result<SvcbRdata<V>, ScanError>
