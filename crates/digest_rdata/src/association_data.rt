@@ -34,8 +34,9 @@ use wire_base::{
 };
 
 /// The data of a record that ties a name to a key, a digest or a certificate: numbers in fixed fields `F`, and a last
-/// field of octets that takes the rest, at most 65,535 octets in all. [`Tlsa`](crate::Tlsa), [`Cds`](crate::Cds) and the
-/// others are this type over their own fields, so that reading, composing, scanning, printing and comparing stand once.
+/// field of octets that takes the rest, at most 65,535 octets in all. [`Tlsa`](crate::Tlsa), [`Cds`](crate::Cds) and
+/// the others are this type over their own fields, so that reading, composing, scanning, printing and comparing stand
+/// once.
 ///
 /// Contracts see the fields and the octets of the last field. Data is compared by its fixed fields in wire order, each
 /// as a number, then by the last field, octet by octet.

@@ -25,7 +25,8 @@ use std::hash::Hash;
 use text_spec::ScanError;
 use wire_base::NoMemory;
 
-/// The fixed fields of a type of record, over which [`AssociationData`](crate::AssociationData) is the type of its data.
+/// The fixed fields of a type of record, over which [`AssociationData`](crate::AssociationData) is the type of its
+/// data.
 ///
 /// A type of fields says by `definition` which record it belongs to, and by `numbers` which numbers its fields are. It
 /// owes that these are read, composed, scanned, printed, laid out and compared as the definition says.

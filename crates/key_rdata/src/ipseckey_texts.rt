@@ -32,7 +32,8 @@ impl Ipseckey {
     /// - `UnknownGateway`: the gateway's type is over 3. The scanner stands behind the three numbers.
     /// - `WrongGateway`, `BadAddress`, `BadName`: the token is no gateway of that type. The scanner stands before it.
     /// - `BadBase64`: the tokens left are no base64 text. The scanner stands before the first of them.
-    /// - `MissingKey`: the key has no octets, and the algorithm isn't `NONE`. The scanner stands at the end of the entry.
+    /// - `MissingKey`: the key has no octets, and the algorithm isn't `NONE`. The scanner stands at the end of the
+    ///   entry.
     /// - `LongRecord`: the data would have more than 65,535 octets. The scanner stands at the end of the entry.
     /// - `NoMemory`: allocation failed. The scanner is where it was before the call.
     pub fn scan<S: Scanner>(alloc: Global, scanner: &mut S) -> Result<Ipseckey, ScanError>
