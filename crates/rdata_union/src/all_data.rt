@@ -18,8 +18,8 @@ use svcb_rdata::{Https, Svcb};
 use wire_base::{NoMemory, ParseError, Parser, Rtype};
 use wire_records::{A, Aaaa, UnknownRecordData};
 
-/// The data of a record of any type, in a zone or not: by its fields where there is a type of data for it, else as octets
-/// under the number of its type. Data whose type has fields may be held as octets too.
+/// The data of a record of any type, in a zone or not: by its fields where there is a type of data for it, else as
+/// octets under the number of its type. Data whose type has fields may be held as octets too.
 ///
 /// Data is compared by the number of its type; of one type, data that is held by its fields comes before data that is
 /// held as octets; then its own type compares it.

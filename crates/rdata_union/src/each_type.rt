@@ -2,11 +2,11 @@
 
 /// A `match` with an arm for each type of data, in one of these forms:
 ///
-/// - `each_type!(Union, held, data => value)`: one expression for the data of every type. With `Unknown => other` behind
-///   it, data without fields has an expression of its own.
+/// - `each_type!(Union, held, data => value)`: one expression for the data of every type. With `Unknown => other`
+///   behind it, data without fields has an expression of its own.
 /// - `each_type!(Union as Other, held)`: the same data in the variant of the same name of another union.
-/// - `each_type!(Union, (held, others), (data, other) => value; arms)`: one expression for two that are held by the same
-///   variant, and arms for any others.
+/// - `each_type!(Union, (held, others), (data, other) => value; arms)`: one expression for two that are held by the
+///   same variant, and arms for any others.
 macro_rules! each_type {
     // The names of the types that have fields, in the order of their numbers, go in front of what a form needs.
     (@types $form:ident $($arguments:tt)*) => {

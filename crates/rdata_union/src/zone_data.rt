@@ -16,9 +16,9 @@ use text_spec::ScanError;
 use wire_base::{NoMemory, Rtype};
 use wire_records::{A, Aaaa, UnknownRecordData};
 
-/// The data of a record in a zone, whatever its type: by its fields where there is a type of data for it, else as octets
-/// under the number of its type. Data whose type has fields may be held as octets too, as an entry with the marker `\#` of
-/// unknown data (RFC 3597, section 5) writes it.
+/// The data of a record in a zone, whatever its type: by its fields where there is a type of data for it, else as
+/// octets under the number of its type. Data whose type has fields may be held as octets too, as an entry with the
+/// marker `\#` of unknown data (RFC 3597, section 5) writes it.
 ///
 /// Data is compared by the number of its type; of one type, data that is held by its fields comes before data that is
 /// held as octets; then its own type compares it.
@@ -72,8 +72,8 @@ impl ZoneRecordData {
     /// Scans the data that all tokens left spell under the number of its type: behind the marker of data of any
     /// type, octets (RFC 3597, section 5), whatever the number; else the fields of the type.
     ///
-    /// - The errors of [`scan_unknown`] behind the marker, and else of the type's own `scan`: these name where the scanner
-    ///   then stands.
+    /// - The errors of [`scan_unknown`] behind the marker, and else of the type's own `scan`: these name where the
+    ///   scanner then stands.
     /// - `UnknownType`: there is no marker, and there is no type of data under that number. The scanner is unchanged.
     /// - `TrailingTokens`: a token is left behind the data. The scanner stands before it.
     /// - `NoMemory`: allocation failed. The scanner is where it was before the call.
