@@ -94,54 +94,54 @@ row_of rtype =
     else zonemd
 
 -- what is fed to a hasher of what data of a type number holds
-abbrev held_fed : ℕ → Content → fed.HashWrites
-held_fed rtype (Octets octets) = fed.slice fed.u8 octets
-held_fed rtype (Fields found) = fields.fields_hash_input (row_of rtype) found
-held_fed rtype (Gateway found) = ipseckey_hash_input found
-held_fed rtype (Service found) = svcb.svcb_hash_input found
+abbrev content_hash_input : ℕ → Content → fed.HashWrites
+content_hash_input rtype (Octets octets) = fed.slice fed.u8 octets
+content_hash_input rtype (Fields found) = fields.fields_hash_input (row_of rtype) found
+content_hash_input rtype (Gateway found) = ipseckey_hash_input found
+content_hash_input rtype (Service found) = svcb.svcb_hash_input found
 
 -- what is fed to a hasher: the type number, and what data holds
 abbrev pub union_hash_input : RecordData → fed.HashWrites
-union_hash_input found = fed.u16 (rtype_of found) ++ held_fed (rtype_of found) (content_of found)
+union_hash_input found = fed.u16 (rtype_of found) ++ content_hash_input (rtype_of found) (content_of found)
 
 -- ---- laws of what data holds
 
-same_held_ties : (x y : Content) → is_same_content x y ≡ eq_by_cmp content_cmp x y
-same_held_ties (Octets x) (Octets y) = texts_ties x y
-same_held_ties (Octets x) (Fields y) = refl
-same_held_ties (Octets x) (Gateway y) = refl
-same_held_ties (Octets x) (Service y) = refl
-same_held_ties (Fields x) (Octets y) = refl
-same_held_ties (Fields x) (Fields y) = fields.same_fields_ties x y
-same_held_ties (Fields x) (Gateway y) = refl
-same_held_ties (Fields x) (Service y) = refl
-same_held_ties (Gateway x) (Octets y) = refl
-same_held_ties (Gateway x) (Fields y) = refl
-same_held_ties (Gateway x) (Gateway y) = same_ipseckey_ties x y
-same_held_ties (Gateway x) (Service y) = refl
-same_held_ties (Service x) (Octets y) = refl
-same_held_ties (Service x) (Fields y) = refl
-same_held_ties (Service x) (Gateway y) = refl
-same_held_ties (Service x) (Service y) = svcb.same_svcb_ties x y
+same_content_ties : (x y : Content) → is_same_content x y ≡ eq_by_cmp content_cmp x y
+same_content_ties (Octets x) (Octets y) = texts_ties x y
+same_content_ties (Octets x) (Fields y) = refl
+same_content_ties (Octets x) (Gateway y) = refl
+same_content_ties (Octets x) (Service y) = refl
+same_content_ties (Fields x) (Octets y) = refl
+same_content_ties (Fields x) (Fields y) = fields.same_fields_ties x y
+same_content_ties (Fields x) (Gateway y) = refl
+same_content_ties (Fields x) (Service y) = refl
+same_content_ties (Gateway x) (Octets y) = refl
+same_content_ties (Gateway x) (Fields y) = refl
+same_content_ties (Gateway x) (Gateway y) = same_ipseckey_ties x y
+same_content_ties (Gateway x) (Service y) = refl
+same_content_ties (Service x) (Octets y) = refl
+same_content_ties (Service x) (Fields y) = refl
+same_content_ties (Service x) (Gateway y) = refl
+same_content_ties (Service x) (Service y) = svcb.same_svcb_ties x y
 
-same_held_fed : (rtype : ℕ) (x y : Content) → is_same_content x y ≡ true
-    → held_fed rtype x ≡ held_fed rtype y
-same_held_fed rtype (Octets x) (Octets y) is = ap (fed.slice fed.u8) ((bytes_decides x y).0 is)
-same_held_fed rtype (Octets x) (Fields y) is = absurd cc
-same_held_fed rtype (Octets x) (Gateway y) is = absurd cc
-same_held_fed rtype (Octets x) (Service y) is = absurd cc
-same_held_fed rtype (Fields x) (Octets y) is = absurd cc
-same_held_fed rtype (Fields x) (Fields y) is = fields.same_fields_hash_input (row_of rtype) x y is
-same_held_fed rtype (Fields x) (Gateway y) is = absurd cc
-same_held_fed rtype (Fields x) (Service y) is = absurd cc
-same_held_fed rtype (Gateway x) (Octets y) is = absurd cc
-same_held_fed rtype (Gateway x) (Fields y) is = absurd cc
-same_held_fed rtype (Gateway x) (Gateway y) is = same_ipseckey_hash_input x y is
-same_held_fed rtype (Gateway x) (Service y) is = absurd cc
-same_held_fed rtype (Service x) (Octets y) is = absurd cc
-same_held_fed rtype (Service x) (Fields y) is = absurd cc
-same_held_fed rtype (Service x) (Gateway y) is = absurd cc
-same_held_fed rtype (Service x) (Service y) is = svcb.same_svcb_hash_input x y is
+same_content_hash_input : (rtype : ℕ) (x y : Content) → is_same_content x y ≡ true
+    → content_hash_input rtype x ≡ content_hash_input rtype y
+same_content_hash_input rtype (Octets x) (Octets y) is = ap (fed.slice fed.u8) ((bytes_decides x y).0 is)
+same_content_hash_input rtype (Octets x) (Fields y) is = absurd cc
+same_content_hash_input rtype (Octets x) (Gateway y) is = absurd cc
+same_content_hash_input rtype (Octets x) (Service y) is = absurd cc
+same_content_hash_input rtype (Fields x) (Octets y) is = absurd cc
+same_content_hash_input rtype (Fields x) (Fields y) is = fields.same_fields_hash_input (row_of rtype) x y is
+same_content_hash_input rtype (Fields x) (Gateway y) is = absurd cc
+same_content_hash_input rtype (Fields x) (Service y) is = absurd cc
+same_content_hash_input rtype (Gateway x) (Octets y) is = absurd cc
+same_content_hash_input rtype (Gateway x) (Fields y) is = absurd cc
+same_content_hash_input rtype (Gateway x) (Gateway y) is = same_ipseckey_hash_input x y is
+same_content_hash_input rtype (Gateway x) (Service y) is = absurd cc
+same_content_hash_input rtype (Service x) (Octets y) is = absurd cc
+same_content_hash_input rtype (Service x) (Fields y) is = absurd cc
+same_content_hash_input rtype (Service x) (Gateway y) is = absurd cc
+same_content_hash_input rtype (Service x) (Service y) is = svcb.same_svcb_hash_input x y is
 
 -- ---- the order of what data holds, kind by kind
 
@@ -216,14 +216,14 @@ kinds_total =
     (then_total (on_total gateway_in (options_total ipseckey_total))
     (on_total service_in (options_total service_total)))))
 
-held_total : IsTotalOrder content_cmp
-held_total = subst IsTotalOrder (λ i x y. same_order x y i) kinds_total
+content_total : IsTotalOrder content_cmp
+content_total = subst IsTotalOrder (λ i x y. same_order x y i) kinds_total
 
 -- ---- laws of data
 
 pub union_total : IsTotalOrder union_cmp
 union_total = then_total (on_total rtype_of nat_cmp_total)
-    (then_total (on_total unknown_rank nat_cmp_total) (on_total content_of held_total))
+    (then_total (on_total unknown_rank nat_cmp_total) (on_total content_of content_total))
 
 -- the order finds equal what is the same data
 pub same_union_ties : (x y : RecordData) → is_same_union x y ≡ eq_by_cmp union_cmp x y
@@ -234,7 +234,7 @@ same_union_ties x y =
     cc (
       unsigned_tied (rtype_of x) (rtype_of y),
       unsigned_tied (unknown_rank x) (unknown_rank y),
-      same_held_ties (content_of x) (content_of y),
+      same_content_ties (content_of x) (content_of y),
       swapped (unknown_rank x == unknown_rank y) (rtype_of x == rtype_of y)
           (is_same_content (content_of x) (content_of y)),
       tied_then u h,
@@ -263,6 +263,6 @@ same_union_hash_input x y is =
     (is_same_content (content_of x) (content_of y)) first.1 in
     cc (
       same_number (rtype_of x) (rtype_of y) second.0,
-      same_held_fed (rtype_of x) (content_of x)
+      same_content_hash_input (rtype_of x) (content_of x)
           (content_of y) second.1,
     )

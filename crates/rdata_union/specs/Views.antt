@@ -16,7 +16,7 @@ use Rattle.rdata_union.specs.declared.all_data.AllRecordData.TheVariants as all
 use Rattle.rdata_union.specs.declared.zone_data.ZoneRecordData.{ZoneRecordData}
 use Rattle.rdata_union.specs.declared.zone_data.ZoneRecordData.TheVariants as zone
 use Rattle.rdata_union.specs.declared.data_ref.RecordDataRef.{RecordDataRef}
-use Rattle.rdata_union.specs.declared.data_ref.RecordDataRef.TheVariants as lent
+use Rattle.rdata_union.specs.declared.data_ref.RecordDataRef.TheVariants as borrowed
 
 -- ---- fixed fields by their numbers, in the order of the wire
 
@@ -71,19 +71,19 @@ data_of_zone (zone.Https found) = spec.Https found
 data_of_zone (zone.Unknown found) = spec.Unknown found
 
 -- data that is borrowed
-abbrev pub data_seen : RecordDataRef → spec.RecordData
-data_seen (lent.A found) = spec.A found.now
-data_seen (lent.Aaaa found) = spec.Aaaa found.now
-data_seen (lent.Sshfp found) = spec.Sshfp (sshfp_of found.now)
-data_seen (lent.Ipseckey found) = spec.Ipseckey found.now
-data_seen (lent.Tlsa found) = spec.Tlsa (tlsa_of found.now)
-data_seen (lent.Cds found) = spec.Cds (cds_of found.now)
-data_seen (lent.Cdnskey found) = spec.Cdnskey (cdnskey_of found.now)
-data_seen (lent.Openpgpkey found) = spec.Openpgpkey (openpgpkey_of found.now)
-data_seen (lent.Zonemd found) = spec.Zonemd (zonemd_of found.now)
-data_seen (lent.Svcb found) = spec.Svcb found.now
-data_seen (lent.Https found) = spec.Https found.now
-data_seen (lent.Unknown found) = spec.Unknown found.now
+abbrev pub data_of_ref : RecordDataRef → spec.RecordData
+data_of_ref (borrowed.A found) = spec.A found.now
+data_of_ref (borrowed.Aaaa found) = spec.Aaaa found.now
+data_of_ref (borrowed.Sshfp found) = spec.Sshfp (sshfp_of found.now)
+data_of_ref (borrowed.Ipseckey found) = spec.Ipseckey found.now
+data_of_ref (borrowed.Tlsa found) = spec.Tlsa (tlsa_of found.now)
+data_of_ref (borrowed.Cds found) = spec.Cds (cds_of found.now)
+data_of_ref (borrowed.Cdnskey found) = spec.Cdnskey (cdnskey_of found.now)
+data_of_ref (borrowed.Openpgpkey found) = spec.Openpgpkey (openpgpkey_of found.now)
+data_of_ref (borrowed.Zonemd found) = spec.Zonemd (zonemd_of found.now)
+data_of_ref (borrowed.Svcb found) = spec.Svcb found.now
+data_of_ref (borrowed.Https found) = spec.Https found.now
+data_of_ref (borrowed.Unknown found) = spec.Unknown found.now
 
 -- ---- read
 

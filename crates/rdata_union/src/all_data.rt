@@ -6,9 +6,10 @@ ghost use Rattle.wire_base.specs.Faults.{GivesCopy};
 ghost use Rattle.wire_base.specs.RecordReading.{place_behind};
 ghost use Rattle.wire_base.specs.declared.errors.ParseError.TheVariants as errors;
 ghost use Rattle.record_spec.specs.UnionReading.{union_read};
-ghost use Rattle.rdata_union.specs.Views.{data_of_all, data_of_zone, data_seen, value_read};
+ghost use Rattle.rdata_union.specs.Views.{data_of_all, data_of_zone, data_of_ref, value_read};
 
 use crate::data_ref::RecordDataRef;
+use crate::each_type::each_type;
 use crate::zone_data::ZoneRecordData;
 use digest_rdata::{Cds, Sshfp, Tlsa, Zonemd};
 use key_rdata::{Cdnskey, Ipseckey, Openpgpkey};
@@ -17,11 +18,11 @@ use svcb_rdata::{Https, Svcb};
 use wire_base::{NoMemory, ParseError, Parser, Rtype};
 use wire_records::{A, Aaaa, UnknownRecordData};
 
-/// The data of a record of any type: by its fields where this crate has a type for it, else as octets under the
-/// number of its type. Data whose type has fields may be held as octets too.
+/// The data of a record of any type, in a zone or not: by its fields where there is a type of data for it, else as
+/// octets under the number of its type. Data whose type has fields may be held as octets too.
 ///
-/// Data is compared by the number of its type, then data by its fields before octets, then as its own type compares
-/// it.
+/// Data is compared by the number of its type; of one type, data that is held by its fields comes before data that is
+/// held as octets; then its own type compares it.
 #[derive(Debug, Drop)]
 pub enum AllRecordData {
     /// An IPv4 address.
@@ -51,11 +52,13 @@ pub enum AllRecordData {
 }
 
 impl AllRecordData {
-    /// Reads the data of a record with the number of its type: that of a type with fields as these, any other as
-    /// octets.
+    /// Reads the data of a record with the number of its type: by its fields where there is a type of data under that
+    /// number, else as octets.
     ///
-    /// `ShortInput`, `Form`: the first fault of the data, as its type's own `parse` tells it. `NoMemory`: the data
-    /// has no fault, and the memory for the copy isn't there. The parser then stays.
+    /// After an error the parser is unchanged.
+    ///
+    /// - `ShortInput`, `Form`: the first fault of the data, as its type's own `parse` says.
+    /// - `NoMemory`: the data has no fault, but allocation failed.
     #[tactic(auto, using(crate::proofs::ReadingAnswers::short_given, crate::proofs::ReadingAnswers::form_given))]
     pub fn parse_any_rdata(
         alloc: Global,
@@ -108,25 +111,12 @@ impl AllRecordData {
     pub fn into_zone_data(self) -> ZoneRecordData
         ensures { data_of_zone result ≡ data_of_all self }
     {
-        match self {
-            AllRecordData::A(found) => ZoneRecordData::A(found),
-            AllRecordData::Aaaa(found) => ZoneRecordData::Aaaa(found),
-            AllRecordData::Sshfp(found) => ZoneRecordData::Sshfp(found),
-            AllRecordData::Ipseckey(found) => ZoneRecordData::Ipseckey(found),
-            AllRecordData::Tlsa(found) => ZoneRecordData::Tlsa(found),
-            AllRecordData::Cds(found) => ZoneRecordData::Cds(found),
-            AllRecordData::Cdnskey(found) => ZoneRecordData::Cdnskey(found),
-            AllRecordData::Openpgpkey(found) => ZoneRecordData::Openpgpkey(found),
-            AllRecordData::Zonemd(found) => ZoneRecordData::Zonemd(found),
-            AllRecordData::Svcb(found) => ZoneRecordData::Svcb(found),
-            AllRecordData::Https(found) => ZoneRecordData::Https(found),
-            AllRecordData::Unknown(found) => ZoneRecordData::Unknown(found),
-        }
+        each_type!(AllRecordData as ZoneRecordData, self)
     }
 
     /// A copy.
     ///
-    /// `NoMemory`: the memory for it isn't there.
+    /// Fails only with `NoMemory`: allocation failed.
     pub fn try_clone(&self, alloc: Global) -> Result<AllRecordData, NoMemory>
         ensures { IfOk result (λ copy. data_of_all copy ≡ data_of_all self.now) }
     {
@@ -135,21 +125,8 @@ impl AllRecordData {
 
     /// The same data, borrowed. No memory is taken.
     pub(crate) fn for_ref(&self) -> RecordDataRef<'_>
-        ensures { data_seen result ≡ data_of_all self.now }
+        ensures { data_of_ref result ≡ data_of_all self.now }
     {
-        match self {
-            AllRecordData::A(found) => RecordDataRef::A(found),
-            AllRecordData::Aaaa(found) => RecordDataRef::Aaaa(found),
-            AllRecordData::Sshfp(found) => RecordDataRef::Sshfp(found),
-            AllRecordData::Ipseckey(found) => RecordDataRef::Ipseckey(found),
-            AllRecordData::Tlsa(found) => RecordDataRef::Tlsa(found),
-            AllRecordData::Cds(found) => RecordDataRef::Cds(found),
-            AllRecordData::Cdnskey(found) => RecordDataRef::Cdnskey(found),
-            AllRecordData::Openpgpkey(found) => RecordDataRef::Openpgpkey(found),
-            AllRecordData::Zonemd(found) => RecordDataRef::Zonemd(found),
-            AllRecordData::Svcb(found) => RecordDataRef::Svcb(found),
-            AllRecordData::Https(found) => RecordDataRef::Https(found),
-            AllRecordData::Unknown(found) => RecordDataRef::Unknown(found),
-        }
+        each_type!(AllRecordData as RecordDataRef, self)
     }
 }

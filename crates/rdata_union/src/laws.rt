@@ -1,6 +1,6 @@
-//! What holds of the data that has no fields, each proved for all values: with `svcb_rdata::laws::made_of_octets` and the
-//! clause `is_data` of the other types' `rdlen`, the premises of the law of `record_laws` on printed texts. The functions do
-//! nothing when they run.
+//! What holds of the data that has no fields, each proved for all values: with `svcb_rdata::laws::made_of_octets` and
+//! the clause `is_data` of the other types' `rdlen`, the premises of the law of `record_laws` on printed texts. The
+//! functions do nothing when they run.
 
 ghost use Rattle.std.specs.Prelude.{◌≤◌, length};
 ghost use Rattle.name_spec.specs.AddressLaws.{AreOctets};

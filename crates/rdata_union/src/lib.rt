@@ -7,6 +7,7 @@ mod all_data;
 mod all_traits;
 mod canonical;
 mod data_ref;
+mod each_type;
 pub mod laws;
 mod zone_comparisons;
 mod zone_conversions;

@@ -3,9 +3,10 @@
 ghost use Rattle.std.specs.Prelude.{◌≡◌, IfOk};
 ghost use Rattle.text_spec.specs.Scanning.{Scans, ScansPart};
 ghost use Rattle.record_spec.specs.UnionTexts.{scan_fields, scan_any, union_scan};
-ghost use Rattle.rdata_union.specs.Views.{data_of_zone, data_seen};
+ghost use Rattle.rdata_union.specs.Views.{data_of_zone, data_of_ref};
 
 use crate::data_ref::RecordDataRef;
+use crate::each_type::each_type;
 use digest_rdata::{Cds, Sshfp, Tlsa, Zonemd};
 use dns_text::{Scanner, scan_a, scan_aaaa, scan_unknown};
 use key_rdata::{Cdnskey, Ipseckey, Openpgpkey};
@@ -15,11 +16,30 @@ use text_spec::ScanError;
 use wire_base::{NoMemory, Rtype};
 use wire_records::{A, Aaaa, UnknownRecordData};
 
-/// The data of a record in a zone: by its fields where this crate has a type for it, else as octets under the
-/// number of its type. Data whose type has fields may be held as octets too.
+/// The data of a record in a zone, whatever its type: by its fields where there is a type of data for it, else as
+/// octets under the number of its type. Data whose type has fields may be held as octets too, as an entry with the
+/// marker `\#` of unknown data (RFC 3597, section 5) writes it.
 ///
-/// Data is compared by the number of its type, then data by its fields before octets, then as its own type compares
-/// it.
+/// Data is compared by the number of its type; of one type, data that is held by its fields comes before data that is
+/// held as octets; then its own type compares it.
+///
+/// To scan the text of a zone file entry, under the number of its type, and compose it:
+///
+/// ```
+/// use dns_text::{Entry, EntryScanner};
+/// use rdata_union::ZoneRecordData;
+/// use std::alloc::Global;
+/// use text_spec::ScanError;
+/// use wire_base::{ComposeRecordData, Rtype};
+///
+/// fn composed(alloc: Global, rtype: Rtype, text: &[u8]) -> Result<Vec<u8>, ScanError> {
+///     let mut scanner = EntryScanner::new(Entry::from_text(text)?);
+///     let data = ZoneRecordData::scan(alloc, rtype, &mut scanner)?;
+///     let mut octets = Vec::new(alloc);
+///     data.compose_rdata(&mut octets)?;
+///     Ok(octets)
+/// }
+/// ```
 #[derive(Debug, Drop)]
 pub enum ZoneRecordData {
     /// An IPv4 address.
@@ -52,10 +72,11 @@ impl ZoneRecordData {
     /// Scans the data that all tokens left spell under the number of its type: behind the marker of data of any
     /// type, octets (RFC 3597, section 5), whatever the number; else the fields of the type.
     ///
-    /// The faults behind the marker are those of [`scan_unknown`], the others those of the type's own `scan`, which
-    /// also name where the scanner then stands. `UnknownType`: there is no marker, and the type has no fields here;
-    /// the scanner then stays. `TrailingTokens`: a token is left behind the data; the scanner then stands before
-    /// it. `NoMemory`: the memory for the data isn't there; the scanner then stays.
+    /// - The errors of [`scan_unknown`] behind the marker, and else of the type's own `scan`: these name where the
+    ///   scanner then stands.
+    /// - `UnknownType`: there is no marker, and there is no type of data under that number. The scanner is unchanged.
+    /// - `TrailingTokens`: a token is left behind the data. The scanner stands before it.
+    /// - `NoMemory`: allocation failed. The scanner is where it was before the call.
     pub fn scan<S: Scanner>(
         alloc: Global,
         rtype: Rtype,
@@ -71,7 +92,7 @@ impl ZoneRecordData {
 
     /// A copy.
     ///
-    /// `NoMemory`: the memory for it isn't there.
+    /// Fails only with `NoMemory`: allocation failed.
     pub fn try_clone(&self, alloc: Global) -> Result<ZoneRecordData, NoMemory>
         ensures { IfOk result (λ copy. data_of_zone copy ≡ data_of_zone self.now) }
     {
@@ -80,26 +101,13 @@ impl ZoneRecordData {
 
     /// The same data, borrowed. No memory is taken.
     pub(crate) fn for_ref(&self) -> RecordDataRef<'_>
-        ensures { data_seen result ≡ data_of_zone self.now }
+        ensures { data_of_ref result ≡ data_of_zone self.now }
     {
-        match self {
-            ZoneRecordData::A(found) => RecordDataRef::A(found),
-            ZoneRecordData::Aaaa(found) => RecordDataRef::Aaaa(found),
-            ZoneRecordData::Sshfp(found) => RecordDataRef::Sshfp(found),
-            ZoneRecordData::Ipseckey(found) => RecordDataRef::Ipseckey(found),
-            ZoneRecordData::Tlsa(found) => RecordDataRef::Tlsa(found),
-            ZoneRecordData::Cds(found) => RecordDataRef::Cds(found),
-            ZoneRecordData::Cdnskey(found) => RecordDataRef::Cdnskey(found),
-            ZoneRecordData::Openpgpkey(found) => RecordDataRef::Openpgpkey(found),
-            ZoneRecordData::Zonemd(found) => RecordDataRef::Zonemd(found),
-            ZoneRecordData::Svcb(found) => RecordDataRef::Svcb(found),
-            ZoneRecordData::Https(found) => RecordDataRef::Https(found),
-            ZoneRecordData::Unknown(found) => RecordDataRef::Unknown(found),
-        }
+        each_type!(ZoneRecordData as RecordDataRef, self)
     }
 }
 
-/// The data, behind which no token is left. Where memory is wanting, tokens may be taken.
+/// The data, behind which no token is left. Where allocation fails, tokens may have been taken.
 fn scan_whole<S: Scanner>(
     alloc: Global,
     rtype: Rtype,
@@ -113,7 +121,7 @@ fn scan_whole<S: Scanner>(
     Ok(found)
 }
 
-/// Octets behind the marker, else the fields. Where memory is wanting, tokens may be taken.
+/// Octets behind the marker, else the fields. Where allocation fails, tokens may have been taken.
 fn scan_any<S: Scanner>(
     alloc: Global,
     rtype: Rtype,
@@ -130,7 +138,7 @@ fn scan_any<S: Scanner>(
 
 /// The fields of the type.
 ///
-/// `UnknownType`: the type has no fields here. The scanner then stays.
+/// `UnknownType`: there is no type of data under that number. The scanner is unchanged.
 fn scan_fields<S: Scanner>(
     alloc: Global,
     rtype: Rtype,
