@@ -102,7 +102,8 @@ content_hash_input rtype (Service found) = svcb.svcb_hash_input found
 
 -- what is fed to a hasher: the type number, and what data holds
 abbrev pub union_hash_input : RecordData → fed.HashWrites
-union_hash_input found = fed.u16 (rtype_of found) ++ content_hash_input (rtype_of found) (content_of found)
+union_hash_input found =
+    fed.u16 (rtype_of found) ++ content_hash_input (rtype_of found) (content_of found)
 
 -- ---- laws of what data holds
 
@@ -126,12 +127,14 @@ same_content_ties (Service x) (Service y) = svcb.same_svcb_ties x y
 
 same_content_hash_input : (rtype : ℕ) (x y : Content) → is_same_content x y ≡ true
     → content_hash_input rtype x ≡ content_hash_input rtype y
-same_content_hash_input rtype (Octets x) (Octets y) is = ap (fed.slice fed.u8) ((bytes_decides x y).0 is)
+same_content_hash_input rtype (Octets x) (Octets y) is =
+    ap (fed.slice fed.u8) ((bytes_decides x y).0 is)
 same_content_hash_input rtype (Octets x) (Fields y) is = absurd cc
 same_content_hash_input rtype (Octets x) (Gateway y) is = absurd cc
 same_content_hash_input rtype (Octets x) (Service y) is = absurd cc
 same_content_hash_input rtype (Fields x) (Octets y) is = absurd cc
-same_content_hash_input rtype (Fields x) (Fields y) is = fields.same_fields_hash_input (row_of rtype) x y is
+same_content_hash_input rtype (Fields x) (Fields y) is =
+    fields.same_fields_hash_input (row_of rtype) x y is
 same_content_hash_input rtype (Fields x) (Gateway y) is = absurd cc
 same_content_hash_input rtype (Fields x) (Service y) is = absurd cc
 same_content_hash_input rtype (Gateway x) (Octets y) is = absurd cc
