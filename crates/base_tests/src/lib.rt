@@ -4,7 +4,7 @@
 #[cfg(test)]
 mod data;
 #[cfg(test)]
-mod devices;
+mod device_calls;
 #[cfg(test)]
 mod entries;
 #[cfg(test)]
