@@ -24,9 +24,10 @@ are_protocols : (protocols : List (List ℕ)) → Each (λ protocol. length prot
     → list_all has_some protocols ≡ true → Each IsProtocol protocols
 are_protocols [] short some = tt
 are_protocols (protocol ∷ protocols) short some =
-    let both = and_parts (has_some protocol) (list_all has_some protocols) some in
-    (record { not_empty = some_of protocol both.0; fits = omega (arith, short.0) },
-    are_protocols protocols short.1 both.1)
+    let both = and_parts (has_some protocol) (list_all has_some protocols) some in (
+      record { not_empty = some_of protocol both.0; fits = omega (arith, short.0) },
+      are_protocols protocols short.1 both.1,
+    )
 
 -- a value that has a text of its own is read back from it
 pub typed_again : TypedReadBack

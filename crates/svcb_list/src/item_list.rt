@@ -163,8 +163,7 @@ impl<'a, T: ListType> ItemListRef<'a, T> {
     /// `Form`, `ShortInput`: the octets have a fault, and [`ListType::check`] says which. Never `NoMemory`. The parser
     /// is then unchanged.
     pub fn parse(parser: &mut Parser<'a>) -> Result<ItemListRef<'a, T>, ParseError>
-        ensures answer {
-            Gives (λ view. taking_all (octets_left parser.old) (T.value view.slice.now)) result
+        ensures answer { Gives (λ view. taking_all (octets_left parser.old) (T.value view.slice.now)) result
             (whole_value T.fault T.value (octets_left parser.old)) }
         ensures octets { IfOk result (λ view. view.slice.now ≡ octets_left parser.old) }
         ensures takes { TakesAll parser.old parser.new result }

@@ -60,8 +60,7 @@ impl<'a, T: OpaqueType> OpaqueRef<'a, T> {
     ///
     /// `Form`: more than 65,535 octets remain. The parser is then unchanged.
     pub fn parse(parser: &mut Parser<'a>) -> Result<OpaqueRef<'a, T>, ParseError>
-        ensures answer {
-            Gives (λ view. taking_all (octets_left parser.old) (T.value view.slice.now)) result
+        ensures answer { Gives (λ view. taking_all (octets_left parser.old) (T.value view.slice.now)) result
             (whole_value long_fault T.value (octets_left parser.old)) }
         ensures takes { TakesAll parser.old parser.new result }
         ensures len { parser.old.pos + length (octets_left parser.old) ≡ parser.old.end }
