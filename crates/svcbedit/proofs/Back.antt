@@ -540,14 +540,14 @@ all_back read_back texts line_fits found is =
     let spelled = spelled_back octets (rdata_small found is) in
     let back = read_back found is.is_record in (
       record {
-        due_of_show = show_due 64 given _
+        shown = show_due 64 given _
             (ap (due_of_octets 64) spelled
             ∙ ap data_shown (service_read Svcb octets found back)) few;
         scanned = scanned_back texts 64 (Svcb found) _
             (record { number = refl; is_data = is; fits = line_fits found is }) refl;
       },
       record {
-        due_of_show = show_due 65 given _
+        shown = show_due 65 given _
             (ap (due_of_octets 65) spelled
             ∙ ap data_shown (service_read Https octets found back)) few;
         scanned = scanned_back texts 65 (Https found) _
