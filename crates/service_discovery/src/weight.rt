@@ -43,7 +43,7 @@ impl<'a> ParseSvcParamValue<'a> for Weight {
         parser: &mut Parser<'a>,
     ) -> Result<Option<Weight>, ParseError> {
         let octets = parser.remaining_octets();
-        if u16::from(key) != Weight::KEY {
+        if key != SvcParamKey::from(Weight::KEY) {
             return Ok(None);
         }
         parser.advance(1)?;
