@@ -1,0 +1,6 @@
+pub mod Sums
+pub mod Marking
+pub mod Alone
+pub mod VerdictLaws
+pub mod Matches
+pub mod Vectors

@@ -1,0 +1,5 @@
+pub mod KeyTags
+pub mod Matching
+pub mod Digests
+pub mod Verdicts
+pub mod Marks
