@@ -11,3 +11,6 @@ pub use checking::check_cds;
 pub use making::{MakeCdsError, make_cds};
 pub use tags::key_tag;
 pub use verdict::CdsVerdict;
+
+#[cfg(test)]
+mod tests;
