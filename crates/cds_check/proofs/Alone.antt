@@ -6,6 +6,13 @@ use Rattle.std.proofs.lemmas.List.Quantifiers.{position-Some}
 use Rattle.std.proofs.lemmas.List.Sums.{position_or_len_is, fails_before_first}
 use Rattle.cds_check.specs.Verdicts.{IsFirstAlone}
 
+-- a part that is all
+pub all_taken : {A : Type 0} (n : ℕ) (xs : List A) → length xs ≤ n → take n xs ≡ xs
+all_taken zero [] h = refl
+all_taken zero (x ∷ xs) h = absurd (omega arith)
+all_taken (suc n) [] h = refl
+all_taken (suc n) (x ∷ xs) h = ap (λ rest. x ∷ rest) (all_taken n xs (omega arith))
+
 first_so : (a b : Bool) → (a && b) ≡ true → a ≡ true
 first_so true b h = refl
 first_so false b h = h

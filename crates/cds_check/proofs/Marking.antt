@@ -4,47 +4,13 @@ use Rattle.std.specs.List.{list_any, list_all}
 use Rattle.std.proofs.lemmas.List.Folds.{list_any_more, list_all_more}
 use Rattle.cds_check.specs.Marks.{marked}
 
-or_true : (a b : Bool) → b ≡ true → (a || b) ≡ true
+pub or_true : (a b : Bool) → b ≡ true → (a || b) ≡ true
 or_true true b h = refl
 or_true false b h = h
 
-or_false : (a b : Bool) → b ≡ false → (a || b) ≡ a
+pub or_false : (a b : Bool) → b ≡ false → (a || b) ≡ a
 or_false true b h = refl
 or_false false b h = h
-
-hit : {K : Type 0} (test : K → Bool) (keys : List K) (marks : List Bool) (j : ℕ) (d : K)
-    → j < length keys → test (get_or keys j d) ≡ true
-    → marked test (take (suc j) keys) marks ≡ set (marked test (take j keys) marks) j true
-hit test [] marks j d within h = absurd (omega arith)
-hit test (key ∷ keys) [] zero d within h = refl
-hit test (key ∷ keys) [] (suc j) d within h = refl
-hit test (key ∷ keys) (mark ∷ marks) zero d within h =
-    ap (λ b. b ∷ marks) (or_true mark (test key) h)
-hit test (key ∷ keys) (mark ∷ marks) (suc j) d within h =
-    ap (λ rest. (mark || test key) ∷ rest) (hit test keys marks j d (omega arith) h)
-
-miss : {K : Type 0} (test : K → Bool) (keys : List K) (marks : List Bool) (j : ℕ) (d : K)
-    → j < length keys → test (get_or keys j d) ≡ false
-    → marked test (take (suc j) keys) marks ≡ marked test (take j keys) marks
-miss test [] marks j d within h = absurd (omega arith)
-miss test (key ∷ keys) [] zero d within h = refl
-miss test (key ∷ keys) [] (suc j) d within h = refl
-miss test (key ∷ keys) (mark ∷ marks) zero d within h =
-    ap (λ b. b ∷ marks) (or_false mark (test key) h)
-miss test (key ∷ keys) (mark ∷ marks) (suc j) d within h =
-    ap (λ rest. (mark || test key) ∷ rest) (miss test keys marks j d (omega arith) h)
-
--- a key that passes is marked
-pub marked_hit : {K : Type 0} (test : K → Bool) (keys : List K) (marks : List Bool) (j : ℕ) (d : K)
-    → j < length keys → test (get_or keys j d) ≡ true
-    → marked test (take (j + 1) keys) marks ≡ set (marked test (take j keys) marks) j true
-marked_hit test keys marks j d within h = rw add-one (hit test keys marks j d within h)
-
--- another is not
-pub marked_miss : {K : Type 0} (test : K → Bool) (keys : List K) (marks : List Bool) (j : ℕ) (d : K)
-    → j < length keys → test (get_or keys j d) ≡ false
-    → marked test (take (j + 1) keys) marks ≡ marked test (take j keys) marks
-marked_miss test keys marks j d within h = rw add-one (miss test keys marks j d within h)
 
 -- the marks behind one more CDS
 pub marked_more : {C K : Type 0} (pairs : C → K → Bool) (cds : List C) (i : ℕ) (d : C)
@@ -91,16 +57,3 @@ pub all_more : {C : Type 0} (test : C → Bool) (cds : List C) (i : ℕ) (d : C)
     → list_all test (take (i + 1) cds) ≡ true
 all_more test cds i d within before h =
     list_all_more test cds i d within ∙ both (list_all test (take i cds)) _ before h
-
--- whether a key is found, behind one more key
-pub found_hit : {K : Type 0} (test : K → Bool) (keys : List K) (j : ℕ) (d : K)
-    → j < length keys → test (get_or keys j d) ≡ true
-    → list_any test (take (j + 1) keys) ≡ true
-found_hit test keys j d within h =
-    list_any_more test keys j d within ∙ or_true (list_any test (take j keys)) _ h
-
-pub found_miss : {K : Type 0} (test : K → Bool) (keys : List K) (j : ℕ) (d : K)
-    → j < length keys → test (get_or keys j d) ≡ false
-    → list_any test (take (j + 1) keys) ≡ list_any test (take j keys)
-found_miss test keys j d within h =
-    list_any_more test keys j d within ∙ or_false (list_any test (take j keys)) _ h

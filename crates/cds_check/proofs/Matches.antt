@@ -69,3 +69,26 @@ match_of owner cds key tag algorithm apart digest =
     let digested : is_digest cds.last (key_digest owner key cds.fields.digest_type) ≡ true =
     digest_same cds.last _ digest in
     grind arith
+
+-- a CDS with the tag of a key
+pub with_tag : (owner : List (List ℕ)) (cds : FieldsView CdsFields) (key : FieldsView CdnskeyFields)
+    → cds.fields.key_tag ≡ key_tag key
+    → matches owner cds key
+    ≡ (cds.fields.algorithm == key.fields.algorithm
+    && (not (cds.fields.algorithm == 1)
+    && is_digest cds.last (key_digest owner key cds.fields.digest_type)))
+unfolding matches
+with_tag owner cds key tag =
+    let tagged : (cds.fields.key_tag == key_tag key) ≡ true = rw tag (octet_same (key_tag key)) in
+    grind arith
+
+and_false : (a b d : Bool) → b ≡ false → ((a && b) && d) ≡ false
+and_false true true d h = cc
+and_false true false d h = refl
+and_false false b d h = refl
+
+-- and with another tag
+pub other_tag : (owner : List (List ℕ)) (cds : FieldsView CdsFields) (key : FieldsView CdnskeyFields)
+    → (cds.fields.key_tag == key_tag key) ≡ false → matches owner cds key ≡ false
+unfolding matches
+other_tag owner cds key h = grind arith

@@ -7,7 +7,7 @@ use Rattle.digest_rdata.specs.FieldsView.{FieldsView}
 use Rattle.cds_check.specs.declared.verdict.CdsVerdict.{CdsVerdict}
 use Rattle.cds_check.specs.declared.verdict.CdsVerdict.TheVariants.{Agree, CdsAlone, CdnskeyAlone}
 use Rattle.cds_check.specs.Verdicts.{has_key, has_cds, verdict_of, cds_verdict, Agrees, IsFirstAlone, IsFirstKeyAlone}
-use Rattle.cds_check.proofs.Alone.{none_alone, position_map, alone_at, all_partners, place_of_alone, no_place}
+use Rattle.cds_check.proofs.Alone.{all_taken, none_alone, position_map, alone_at, all_partners, place_of_alone, no_place}
 
 agree_parts : (p q : Option ℕ) → verdict_of p q ≡ Agree → (p ≡ None) × (q ≡ None)
 agree_parts (Some i) q h = cc
@@ -24,12 +24,6 @@ key_parts : (p q : Option ℕ) (j : ℕ) → verdict_of p q ≡ CdnskeyAlone j
 key_parts (Some i) q k h = cc
 key_parts None (Some j) k h = (refl, cc)
 key_parts None None k h = cc
-
-all_taken : {A : Type 0} (n : ℕ) (xs : List A) → length xs ≤ n → take n xs ≡ xs
-all_taken zero [] h = refl
-all_taken zero (x ∷ xs) h = absurd (omega arith)
-all_taken (suc n) [] h = refl
-all_taken (suc n) (x ∷ xs) h = ap (λ rest. x ∷ rest) (all_taken n xs (omega arith))
 
 module _ (owner : List (List ℕ)) (cds : List (FieldsView CdsFields))
     (keys : List (FieldsView CdnskeyFields)) where

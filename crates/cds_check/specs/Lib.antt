@@ -3,3 +3,4 @@ pub mod Matching
 pub mod Digests
 pub mod Verdicts
 pub mod Marks
+pub mod Places

@@ -83,14 +83,13 @@ fn has_digest(owner: &Name, cds: &Cds, key: &Cdnskey) -> bool
     }
 }
 
-/// Whether a CDS is that of a key with this tag. The digest is computed only where algorithm and tag meet.
-#[tactic(auto, unfolding(crate::specs::Matching::matches))]
-pub(crate) fn is_match(owner: &Name, cds: &Cds, key: &Cdnskey, tag: u16) -> bool
-    requires { tag ≡ key_tag key.now }
+/// Whether a CDS is that of a key whose tag it has.
+#[tactic(auto, using(crate::proofs::Matches::with_tag))]
+pub(crate) fn is_match(owner: &Name, cds: &Cds, key: &Cdnskey) -> bool
+    requires { cds.now.fields.key_tag ≡ key_tag key.now }
     ensures { result ≡ matches owner.now cds.now key.now }
 {
     cds.algorithm() == key.algorithm()
         && cds.algorithm() != SecurityAlgorithm::RSAMD5
-        && cds.key_tag() == tag
         && has_digest(owner, cds, key)
 }

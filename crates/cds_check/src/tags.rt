@@ -22,10 +22,10 @@ fn octet_sum(octets: &[u8]) -> u32
     sum
 }
 
-/// The key tag of a key (RFC 4034, appendix B), which a CDS names it by. It is computed from the fields, and no memory
+/// The key tag of a key (RFC 4034, appendix B), by which a CDS names it. It is computed from the fields, and no memory
 /// is taken.
 ///
-/// Algorithm 1 has no rule of its own here: its tag is that of all octets as well.
+/// Algorithm 1 has no rule of its own, as it has in the RFC: no CDS matches such a key.
 #[tactic(auto, using(crate::proofs::Sums::tag_of_fields))]
 pub fn key_tag(key: &Cdnskey) -> u16
     ensures { result ≡ key_tag key.now }

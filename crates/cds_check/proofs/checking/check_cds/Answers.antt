@@ -66,8 +66,8 @@ pub returns-in-Some-clause-verdict : goal.returns-in-Some-clause-verdict
 returns-in-Some-clause-verdict c =
     ap (verdict_of None) (sym c.in-Some.is)
     ∙ verdict_by_marks c.args.owner.now c.args.cds.now c.args.keys.now c.loop-i.i
-    c.deref-2.result.now c.first_unmarked.result c.loop-i-test.false c.loop-i.invariant.found
-    (c.deref-2.ensures.value ∙ c.loop-i.invariant.marks) c.first_unmarked.ensures
+    c.deref.result.now c.first_unmarked.result c.loop-i-test.false c.loop-i.invariant.found
+    (c.deref.ensures.value ∙ c.loop-i.invariant.marks) c.first_unmarked.ensures
 
 pub returns-in-Some-clause-agree : goal.returns-in-Some-clause-agree
 returns-in-Some-clause-agree c = says_agree _ _ _ _ (returns-in-Some-clause-verdict c)
@@ -82,8 +82,8 @@ pub returns-clause-verdict : goal.returns-clause-verdict
 returns-clause-verdict c =
     ap (verdict_of None) (sym c.in-None.is)
     ∙ verdict_by_marks c.args.owner.now c.args.cds.now c.args.keys.now c.loop-i.i
-    c.deref-2.result.now c.first_unmarked.result c.loop-i-test.false c.loop-i.invariant.found
-    (c.deref-2.ensures.value ∙ c.loop-i.invariant.marks) c.first_unmarked.ensures
+    c.deref.result.now c.first_unmarked.result c.loop-i-test.false c.loop-i.invariant.found
+    (c.deref.ensures.value ∙ c.loop-i.invariant.marks) c.first_unmarked.ensures
 
 pub returns-clause-agree : goal.returns-clause-agree
 returns-clause-agree c = says_agree _ _ _ _ (returns-clause-verdict c)
