@@ -1,5 +1,5 @@
 -- Which CDS matches, and which digest types are taken.
-use Rattle.std.proofs.Common.{◌≡◌, ◌≢◌, ℕ, Bool, true, false, not, ◌&&◌, Option, Some, None, List, [], ◌∷◌, refl, ap, cond, ◌==◌, eqb, arith}
+use Rattle.std.proofs.Common.{◌≡◌, ◌≢◌, ℕ, Bool, true, false, not, ◌&&◌, Option, Some, None, List, [], ◌∷◌, refl, ◌==◌, arith}
 use Rattle.std.proofs.lemmas.Bool.Decides.{nat_tests}
 use Rattle.std.specs.Cmp.Lexicographic.{pointwise}
 use Rattle.digest_rdata.specs.declared.cds.CdsFields.{CdsFields}
@@ -92,3 +92,6 @@ pub other_tag : (owner : List (List ℕ)) (cds : FieldsView CdsFields) (key : Fi
     → (cds.fields.key_tag == key_tag key) ≡ false → matches owner cds key ≡ false
 unfolding matches
 other_tag owner cds key h = grind arith
+
+-- which refusals come, and that what is made matches
+pub ruleset made_rules = (refused_type, refused_types, match_of)

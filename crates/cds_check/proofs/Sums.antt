@@ -1,5 +1,5 @@
 -- The sum behind a key tag.
-use Rattle.std.proofs.Common.{◌≡◌, ℕ, ◌+◌, ◌*◌, ◌<◌, ◌/◌, ◌%◌, true, List, [], ◌∷◌, refl, ap, ◌∙◌, arith}
+use Rattle.std.proofs.Common.{◌≡◌, ℕ, ◌+◌, ◌*◌, ◌<◌, true, ap, arith}
 use Rattle.digest_rdata.specs.declared.cdnskey.CdnskeyFields.{CdnskeyFields}
 use Rattle.digest_rdata.specs.FieldsView.{FieldsView}
 use Rattle.cds_check.specs.KeyTags.{key_octets, octet_sum, with_carry, key_tag}

@@ -1,5 +1,5 @@
 -- What a verdict says.
-use Rattle.std.proofs.Common.{◌≡◌, ℕ, zero, suc, ◌≤◌, ◌↔◌, Bool, true, not, Option, Some, None, List, [], ◌∷◌, length, map, take, refl, ◌∙◌, sym, ap, arith}
+use Rattle.std.proofs.Common.{◌≡◌, ℕ, ◌≤◌, ◌↔◌, Bool, true, not, Option, Some, None, List, length, map, take, refl, ◌∙◌, sym, ap}
 use Rattle.std.specs.List.{position, list_all}
 use Rattle.digest_rdata.specs.declared.cds.CdsFields.{CdsFields}
 use Rattle.digest_rdata.specs.declared.cdnskey.CdnskeyFields.{CdnskeyFields}

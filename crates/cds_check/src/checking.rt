@@ -48,8 +48,8 @@ fn first_unmarked(marks: &[bool]) -> Option<usize>
 
 /// Whether the CDS and the CDNSKEY records of one owner ask the parent zone for the same keys (RFC 7344, section 4).
 ///
-/// A CDS matches a key where they have one algorithm, which is not RSA/MD5 (1), and the CDS has the key's tag (RFC 4034,
-/// appendix B) and the key's digest (section 5.1.4 there) by SHA-256 or SHA-384. A CDS with another digest type matches
+/// A CDS matches a key where they have one algorithm, which is not RSA/MD5 (1), and the CDS has the key's tag and the
+/// key's digest by SHA-256 or SHA-384 (RFC 4034, appendix B and section 5.1.4). A CDS with another digest type matches
 /// no key, and one that asks for the deletion of DS records (RFC 8078) is taken as any other.
 ///
 /// The first CDS that matches no key decides; then the first key that no CDS matches. Each key's tag is computed once,

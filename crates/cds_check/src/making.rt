@@ -43,7 +43,7 @@ impl From<NoMemory> for MakeCdsError {
 /// - `UnsupportedAlgorithm`: the key's algorithm is RSA/MD5 (1).
 /// - `UnsupportedDigest`: the digest type is neither SHA-256 (2) nor SHA-384 (4).
 /// - `NoMemory`: allocation for the digest failed.
-#[tactic(auto, using(crate::proofs::Matches::refused_type, crate::proofs::Matches::refused_types, crate::proofs::Matches::match_of))]
+#[tactic(auto, using(crate::proofs::Matches::made_rules))]
 pub fn make_cds(
     alloc: Global,
     owner: &Name,

@@ -1,5 +1,5 @@
-use Rattle.std.proofs.Common.{◌≡◌, ◌+◌, ◌<◌, Bool, true, false, not, None, length, get_or, take, map, replicate, refl, ap, ◌∙◌, sym, arith}
-use Rattle.std.specs.List.{list_any, list_all, position}
+use Rattle.std.proofs.Common.{◌≡◌, ◌<◌, true, false, not, None, length, get_or, take, map, refl, ap, ◌∙◌, sym, arith}
+use Rattle.std.specs.List.{position}
 use Rattle.cds_check.specs.Matching.{matches}
 use Rattle.cds_check.specs.Marks.{marked}
 use Rattle.cds_check.specs.Verdicts.{has_key, has_cds, cds_verdict, verdict_of}

@@ -1,4 +1,4 @@
-use Rattle.std.proofs.Common.{◌≡◌, ◌+◌, ◌<◌, ◌==◌, ℕ, Bool, true, false, List, length, get_or, take, ap, subst, ◌∙◌, sym, arith}
+use Rattle.std.proofs.Common.{◌≡◌, ◌<◌, ℕ, true, false, List, length, get_or, ap, subst, ◌∙◌, sym, arith}
 use Rattle.std.specs.List.{list_any, fold}
 use Rattle.cds_check.specs.Matching.{matches}
 use Rattle.cds_check.specs.Places.{places_of}

@@ -1,4 +1,4 @@
-use Rattle.std.proofs.Common.{◌≡◌, ◌+◌, ◌<◌, ℕ, length, arith}
+use Rattle.std.proofs.Common.{arith}
 use Rattle.std.proofs.lemmas.Grind.{common_steps}
 use Rattle.cds_check.proofs.PlaceLemmas.{places_hit, places_miss}
 use Rattle.cds_check.proofs.places.places_by_tag.Goals as goal
