@@ -1,0 +1,6 @@
+pub mod KeyTags
+pub mod Matching
+pub mod Digests
+pub mod Verdicts
+pub mod Marks
+pub mod Places
