@@ -1,0 +1,4 @@
+mod HeldKeys
+mod WholeValues
+mod ProtocolSets
+mod Places
