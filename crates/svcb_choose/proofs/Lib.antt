@@ -2,3 +2,4 @@ mod HeldKeys
 mod WholeValues
 mod ProtocolSets
 mod Places
+mod Vectors

@@ -1,5 +1,6 @@
--- Which records a client can use (RFC 9460, sections 7.1 and 8). Each fact is told of a record's
--- parameters, which are its pairs of a key and octets.
+-- Which records a client can use (RFC 9460, sections 7.1 and 8): four facts of a record's
+-- parameters, which are its pairs of a key and octets. The last three take malformed octets as no
+-- value, which the first refuses.
 use Rattle.std.specs.Prelude.{ℕ, ◌==◌, Bool, true, ◌&&◌, ◌||◌, not, List, [], is_some, is_ok}
 use Rattle.std.specs.List.{list_all, list_any}
 use Rattle.std.specs.Option.{option_map_or}

@@ -21,6 +21,8 @@
 mod choice;
 mod choosing;
 mod protocols;
+#[cfg(test)]
+mod tests;
 mod usability;
 
 pub use choice::{Choice, Endpoint, Endpoints, Protocols};

@@ -19,7 +19,7 @@ pub(crate) fn protocols_of(
     ensures { IfOk result (λ found. found ≡ protocols_of defaults.now params.now) }
 {
     let mut listed = alpn_items(alloc, params)?;
-    if !params.no_default_alpn() {
+    if !params.no_default_alpn() && !defaults.is_empty() {
         let known = alpn_set(alloc, params)?;
         add_defaults(alloc, &mut listed, known, defaults)?;
     }
