@@ -34,13 +34,13 @@ records =
 
 two_endpoints : choice example_com records (1 ∷ 3 ∷ []) (codes "http/1.1" ∷ [])
     ≡ Endpoints (
-      record {
-        index = 0;
-        target = example_com;
-        port = Some 8443;
-        protocols = codes "h2" ∷ codes "http/1.1" ∷ [];
-      }
-      ∷ record { index = 2; target = bar; port = None; protocols = codes "http/1.1" ∷ [] } ∷ [])
+    record {
+      index = 0;
+      target = example_com;
+      port = Some 8443;
+      protocols = codes "h2" ∷ codes "http/1.1" ∷ [];
+    }
+    ∷ record { index = 2; target = bar; port = None; protocols = codes "http/1.1" ∷ [] } ∷ [])
 unfolding choice endpoint_of is_usable protocols_of
 two_endpoints = refl
 

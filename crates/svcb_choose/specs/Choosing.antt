@@ -1,6 +1,7 @@
--- What a client chooses from the SVCB or HTTPS records of an owner (RFC 9460, sections 2.4 and 2.5).
+-- What a client chooses from the SVCB or HTTPS records of an owner (RFC 9460, sections 2.4, 2.5).
 use Rattle.std.specs.Prelude.{ℕ, ◌+◌, ◌==◌, Bool, true, ◌&&◌, nat_le, List, [], ◌∷◌, length, Option, None, Some, if◌then◌else◌}
 use Rattle.std.specs.Option.{option_and_then}
+use Rattle.svcb_spec.specs.Params.{Pairs}
 use Rattle.svcb_spec.specs.Records.{Record}
 use Rattle.svcb_spec.specs.Values.{Value, Port}
 use Rattle.svcb_params.specs.Items.{typed_at}
@@ -25,18 +26,26 @@ abbrev pub port_number : Value → Option ℕ
 port_number (Port number) = Some number
 port_number value = None
 
--- The endpoint of a record at a place: its target, or the owner where the target is the root
--- (section 2.5.2), its port, and its protocols.
+-- the port of a record, where it has one (section 7.2)
+abbrev pub port_of : Pairs → Option ℕ
+port_of pairs = option_and_then port_number (typed_at 3 pairs)
+
+-- the target of a record, or the owner where that is the root (section 2.5.2)
+abbrev pub target_of : List (List ℕ) → List (List ℕ) → List (List ℕ)
+target_of owner labels = if length labels == 0 then owner else labels
+
+-- the endpoint of a record at a place
 unfoldable pub endpoint_of : List (List ℕ) → List (List ℕ) → ℕ → Record → Endpoint
 endpoint_of owner defaults place found = record {
   index = place;
-  target = if length found.labels == 0 then owner else found.labels;
-  port = option_and_then port_number (typed_at 3 found.pairs);
+  target = target_of owner found.labels;
+  port = port_of found.pairs;
   protocols = protocols_of defaults found.pairs;
 }
 
 -- the endpoints of the usable records in order, the first of which is at a place
-abbrev pub endpoints_from : List (List ℕ) → List ℕ → List (List ℕ) → ℕ → List Record → List Endpoint
+abbrev pub endpoints_from : List (List ℕ) → List ℕ → List (List ℕ) → ℕ → List Record
+    → List Endpoint
 endpoints_from owner understood defaults place [] = []
 endpoints_from owner understood defaults place (found ∷ others) =
     let behind = endpoints_from owner understood defaults (place + 1) others in
@@ -49,7 +58,8 @@ endpoints_from owner understood defaults place (found ∷ others) =
 abbrev pub alias_of : List (List ℕ) → Choice
 alias_of labels = if length labels == 0 then Unavailable else Alias labels
 
--- The choice for an owner. Where the first record is in alias mode, it alone counts (section 2.4.1).
+-- The choice for an owner. Where the first record is in alias mode, it alone counts (section
+-- 2.4.1).
 unfoldable pub choice : List (List ℕ) → List Record → List ℕ → List (List ℕ) → Choice
 choice owner [] understood defaults = Endpoints []
 choice owner (first ∷ others) understood defaults =

@@ -34,7 +34,9 @@ with_defaults listed (protocol ∷ defaults) =
 abbrev pub alpn_items : Pairs → List (List ℕ)
 alpn_items pairs = option_map_or alpn_protocols (typed_at 1 pairs) []
 
--- the protocols of a record: the items of `alpn`, and the defaults unless `no-default-alpn` is there
+-- the protocols of a record: the items of `alpn`, and unless `no-default-alpn` is there the
+-- defaults
 unfoldable pub protocols_of : List (List ℕ) → Pairs → List (List ℕ)
 protocols_of defaults pairs =
-    if is_some (typed_at 2 pairs) then alpn_items pairs else with_defaults (alpn_items pairs) defaults
+    if is_some (typed_at 2 pairs) then alpn_items pairs
+    else with_defaults (alpn_items pairs) defaults

@@ -21,8 +21,8 @@ are_well_formed pairs =
 abbrev pub is_understood : List ℕ → ℕ → Bool
 is_understood understood key = list_any (λ other. other == key) understood
 
--- The keys that `mandatory` lists: there is one, they ascend strictly, 0 is not among them, and each
--- is a key of the record and is understood.
+-- The keys that `mandatory` lists: there is one, they ascend strictly, 0 is not among them, and
+-- each is a key of the record and is understood.
 abbrev pub are_met : List ℕ → Pairs → List ℕ → Bool
 are_met understood pairs keys =
     has_some keys && (ascends_above 0 keys && list_all (holds_key pairs) keys)

@@ -51,7 +51,7 @@ pub fn choose<V: SvcVariant>(
         ↔ (BeginsWithAlias records.now target × (target ≢ []))) }
     ensures unavailable { IfOk result (λ chosen. chosen ≡ Choice.Unavailable
         ↔ BeginsWithAlias records.now []) }
-    ensures usable { IfOk result (HasUsable understood.now records.now) }
+    ensures usable { IfOk result (HasUsable owner.now understood.now records.now) }
 {
     if let Some(first) = records.first() {
         if first.is_alias() {

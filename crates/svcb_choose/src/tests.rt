@@ -138,7 +138,7 @@ fn priorities_are_to_ascend(rt: HostRuntime) {
 }
 
 /// Records, and whether a client that understands `port` can use them.
-const RECORDS: [(&[u8], usize); 9] = [
+const RECORDS: [(&[u8], usize); 13] = [
     // mandatory=port port=53
     (
         b"\x00\x01\x00\x00\x00\x00\x02\x00\x03\x00\x03\x00\x02\x00\x35",
@@ -150,6 +150,20 @@ const RECORDS: [(&[u8], usize); 9] = [
     (b"\x00\x01\x00\x00\x03\x00\x01\x35", 0),
     // mandatory=port, and no port
     (b"\x00\x01\x00\x00\x00\x00\x02\x00\x03", 0),
+    // mandatory=ipv4hint ipv4hint=192.0.2.1
+    (
+        b"\x00\x01\x00\x00\x00\x00\x02\x00\x04\x00\x04\x00\x04\xc0\x00\x02\x01",
+        0,
+    ),
+    // mandatory=port,port port=53
+    (
+        b"\x00\x01\x00\x00\x00\x00\x04\x00\x03\x00\x03\x00\x03\x00\x02\x00\x35",
+        0,
+    ),
+    // an address of three octets
+    (b"\x00\x01\x00\x00\x04\x00\x03\xc0\x00\x02", 0),
+    // no-default-alpn of one octet
+    (b"\x00\x01\x00\x00\x01\x00\x03\x02h2\x00\x02\x00\x01\x00", 0),
     // mandatory without keys
     (b"\x00\x01\x00\x00\x00\x00\x00", 0),
     // mandatory=mandatory
@@ -165,7 +179,10 @@ const RECORDS: [(&[u8], usize); 9] = [
 #[test]
 fn records_are_usable_by_their_values(rt: HostRuntime) {
     for (record, endpoints) in &RECORDS {
-        assert!(rt; count(rt.alloc(), &[*record]) == Ok(Some(*endpoints)), "{record:?}");
+        assert!(rt;
+            count(rt.alloc(), &[*record]) == Ok(Some(*endpoints)),
+            "{record:?}"
+        );
     }
 }
 
