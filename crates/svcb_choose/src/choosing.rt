@@ -26,14 +26,24 @@ pub fn priorities_ascend<V: SvcVariant>(records: &[SvcbRdata<V>]) -> bool
     true
 }
 
-/// What a client chooses from the records of an owner, whose priorities ascend, as [`priorities_ascend`] tells. The
-/// keys are those that the client understands, and the defaults the protocols that the owner's scheme has by itself
-/// (RFC 9460, section 7.1.2).
+/// What a client chooses from the records of an owner, whose priorities ascend, as [`priorities_ascend`] tells. It
+/// understands these keys, and the defaults are the protocols that the owner's scheme has by itself (RFC 9460, section
+/// 7.1.2).
 ///
-/// A first record in alias mode counts alone. Else there is an endpoint for each usable record, in order. A record is
-/// usable where the octets under each key are wholly a value of the key's type; `mandatory`, where it is there, lists
-/// at least one key, in strictly ascending order, without 0, and only keys of the record that are understood; `alpn`,
-/// where it is there, lists at least one protocol and no empty one; and `no-default-alpn` is there only with `alpn`.
+/// A first record in alias mode counts alone (section 2.4.1): its target is the alias, and where that is the root there
+/// is no service. Else there is an endpoint for each usable record, in order, and no other. A record is usable where
+/// all of these hold:
+///
+/// - The octets under each key from 0 to 9 are wholly a value of the key's type.
+/// - `mandatory`, where it is there, lists at least one key, in strictly ascending order and without 0, and each of
+///   them is a key of the record and is understood (section 8).
+/// - `alpn`, where it is there, lists at least one protocol, and none that is empty.
+/// - `no-default-alpn` is there only where `alpn` is.
+///
+/// An endpoint has the record's target, or the owner where that is the root (section 2.5.2); its port; the protocols
+/// of `alpn`; and behind these, unless `no-default-alpn` is there, each default that isn't in the list so far.
+///
+/// Each mandatory key of a record is looked up in the list of understood keys, which is meant to be short.
 ///
 /// Fails only with `NoMemory`.
 #[tactic(auto, unfolding(crate::specs::Choosing::choice))]
