@@ -1,0 +1,5 @@
+mod HeldKeys
+mod WholeValues
+mod ProtocolSets
+mod Places
+mod Vectors

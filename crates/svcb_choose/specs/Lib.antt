@@ -1,0 +1,4 @@
+pub mod Usability
+pub mod Protocols
+pub mod Choosing
+pub mod Choices
