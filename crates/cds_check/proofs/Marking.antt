@@ -25,7 +25,8 @@ marked_more pairs cds i d (key ∷ keys) within =
     λ at. sym head at ∷ rest at
 
 -- no key is marked at first
-pub marked_none : {K : Type 0} (keys : List K) → replicate (length keys) false ≡ map (λ _. false) keys
+pub marked_none : {K : Type 0} (keys : List K)
+    → replicate (length keys) false ≡ map (λ _. false) keys
 marked_none [] = refl
 marked_none (key ∷ keys) = ap (λ rest. false ∷ rest) (marked_none keys)
 
@@ -41,13 +42,15 @@ front [] ys = refl
 front (x ∷ xs) ys = ap (λ rest. x ∷ rest) (front xs ys)
 
 -- so marks that are written back are all marks
-pub marked_front : {K : Type 0} (test : K → Bool) (keys : List K) (marks new rest : List Bool) (n : ℕ)
+pub marked_front : {K : Type 0} (test : K → Bool) (keys : List K) (marks new rest : List Bool)
+    (n : ℕ)
     → new ≡ marked test keys marks → length marks ≡ n → take n (new ++ rest) ≡ new
 marked_front test keys marks new rest n is len =
-    let same : n ≡ length new = sym len ∙ sym (length-marked test keys marks) ∙ ap length (sym is) in
+    let same : n ≡ length new =
+    sym len ∙ sym (length-marked test keys marks) ∙ ap length (sym is) in
     ap (λ m. take m (new ++ rest)) same ∙ front new rest
 
-both : (a b : Bool) → a ≡ true → b ≡ true → (a && b) ≡ true
+pub both : (a b : Bool) → a ≡ true → b ≡ true → (a && b) ≡ true
 both true b h k = k
 both false b h k = h
 

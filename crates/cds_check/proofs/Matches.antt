@@ -6,6 +6,7 @@ use Rattle.digest_rdata.specs.declared.cds.CdsFields.{CdsFields}
 use Rattle.digest_rdata.specs.declared.cdnskey.CdnskeyFields.{CdnskeyFields}
 use Rattle.digest_rdata.specs.FieldsView.{FieldsView}
 use Rattle.cds_check.specs.KeyTags.{key_tag}
+use Rattle.cds_check.proofs.Marking.{both}
 use Rattle.cds_check.specs.Matching.{digest_by, is_digest, key_digest, matches}
 
 other_type : (digest_type : ℕ) (octets : List ℕ) → digest_type ≢ 2 → digest_type ≢ 4
@@ -36,10 +37,6 @@ refused_types owner key digest_type h = (
 
 octet_same : (n : ℕ) → (n == n) ≡ true
 octet_same n = grind (arith, nat_tests)
-
-both : (a b : Bool) → a ≡ true → b ≡ true → (a && b) ≡ true
-both true b h k = k
-both false b h k = h
 
 same : (octets : List ℕ) → pointwise ◌==◌ octets octets ≡ true
 same [] = refl
@@ -82,13 +79,9 @@ with_tag owner cds key tag =
     let tagged : (cds.fields.key_tag == key_tag key) ≡ true = rw tag (octet_same (key_tag key)) in
     grind arith
 
-and_false : (a b d : Bool) → b ≡ false → ((a && b) && d) ≡ false
-and_false true true d h = cc
-and_false true false d h = refl
-and_false false b d h = refl
-
 -- and with another tag
-pub other_tag : (owner : List (List ℕ)) (cds : FieldsView CdsFields) (key : FieldsView CdnskeyFields)
+pub other_tag : (owner : List (List ℕ)) (cds : FieldsView CdsFields)
+    (key : FieldsView CdnskeyFields)
     → (cds.fields.key_tag == key_tag key) ≡ false → matches owner cds key ≡ false
 unfolding matches
 other_tag owner cds key h = grind arith

@@ -152,7 +152,8 @@ pub place_of : (tag : ℕ) (keys : List (FieldsView CdnskeyFields)) (i : ℕ)
     → i < length (places_of tag keys) → IsPlaceOf tag keys (get_or (places_of tag keys) i 0)
 place_of tag [] i within = absurd (omega arith)
 place_of tag (key ∷ keys) i within =
-    place_by tag key keys (places_of tag keys) (place_of tag keys) (tag == key_tag key) refl i within
+    place_by tag key keys (places_of tag keys) (place_of tag keys) (tag == key_tag key) refl i
+    within
 
 -- ---- going over the places is going over the keys
 
@@ -201,50 +202,51 @@ any_shift test key keys (place ∷ places) =
     ap (λ b. passes test keys place || b) (any_shift test key keys places)
 
 module _ (test : FieldsView CdnskeyFields → Bool) (tag : ℕ)
-    (other : (key : FieldsView CdnskeyFields) → (tag == key_tag key) ≡ false → test key ≡ false) where
-  marks_by : (key : FieldsView CdnskeyFields) (keys : List (FieldsView CdnskeyFields)) (m : Bool)
-      (marks : List Bool) (places : List ℕ)
-      → fold (mark_at test keys) marks places ≡ marked test keys marks
-      → (b : Bool) → (tag == key_tag key) ≡ b
-      → fold (mark_at test (key ∷ keys)) (m ∷ marks)
-      (if b then 0 ∷ map suc places else map suc places)
-      ≡ (m || test key) ∷ marked test keys marks
-  marks_by key keys m marks places ih true e =
-      ap (λ next. fold (mark_at test (key ∷ keys)) next (map suc places))
-      (first_mark (test key) m marks)
-      ∙ shift test key keys (m || test key) marks places
-      ∙ ap (λ after. (m || test key) ∷ after) ih
-  marks_by key keys m marks places ih false e =
-      shift test key keys m marks places
-      ∙ ap (λ after. m ∷ after) ih
-      ∙ ap (λ b. b ∷ marked test keys marks) (sym (or_false m (test key) (other key e)))
+    (other : (key : FieldsView CdnskeyFields) → (tag == key_tag key) ≡ false → test key ≡ false)
+  where
+    marks_by : (key : FieldsView CdnskeyFields) (keys : List (FieldsView CdnskeyFields)) (m : Bool)
+        (marks : List Bool) (places : List ℕ)
+        → fold (mark_at test keys) marks places ≡ marked test keys marks
+        → (b : Bool) → (tag == key_tag key) ≡ b
+        → fold (mark_at test (key ∷ keys)) (m ∷ marks)
+        (if b then 0 ∷ map suc places else map suc places)
+        ≡ (m || test key) ∷ marked test keys marks
+    marks_by key keys m marks places ih true e =
+        ap (λ next. fold (mark_at test (key ∷ keys)) next (map suc places))
+        (first_mark (test key) m marks)
+        ∙ shift test key keys (m || test key) marks places
+        ∙ ap (λ after. (m || test key) ∷ after) ih
+    marks_by key keys m marks places ih false e =
+        shift test key keys m marks places
+        ∙ ap (λ after. m ∷ after) ih
+        ∙ ap (λ b. b ∷ marked test keys marks) (sym (or_false m (test key) (other key e)))
 
-  pub marks_by_places : (keys : List (FieldsView CdnskeyFields)) (marks : List Bool)
-      → fold (mark_at test keys) marks (places_of tag keys) ≡ marked test keys marks
-  marks_by_places [] marks = refl
-  marks_by_places (key ∷ keys) [] = no_marks test (key ∷ keys) (places_of tag (key ∷ keys))
-  marks_by_places (key ∷ keys) (m ∷ marks) =
-      marks_by key keys m marks (places_of tag keys) (marks_by_places keys marks)
-      (tag == key_tag key) refl
+    pub marks_by_places : (keys : List (FieldsView CdnskeyFields)) (marks : List Bool)
+        → fold (mark_at test keys) marks (places_of tag keys) ≡ marked test keys marks
+    marks_by_places [] marks = refl
+    marks_by_places (key ∷ keys) [] = no_marks test (key ∷ keys) (places_of tag (key ∷ keys))
+    marks_by_places (key ∷ keys) (m ∷ marks) =
+        marks_by key keys m marks (places_of tag keys) (marks_by_places keys marks)
+        (tag == key_tag key) refl
 
-  found_by : (key : FieldsView CdnskeyFields) (keys : List (FieldsView CdnskeyFields))
-      (places : List ℕ)
-      → list_any (passes test keys) places ≡ list_any test keys
-      → (b : Bool) → (tag == key_tag key) ≡ b
-      → list_any (passes test (key ∷ keys))
-      (if b then 0 ∷ map suc places else map suc places)
-      ≡ (test key || list_any test keys)
-  found_by key keys places ih true e =
-      ap (λ b. test key || b) (any_shift test key keys places ∙ ih)
-  found_by key keys places ih false e =
-      any_shift test key keys places ∙ ih
-      ∙ ap (λ b. b || list_any test keys) (sym (other key e))
+    found_by : (key : FieldsView CdnskeyFields) (keys : List (FieldsView CdnskeyFields))
+        (places : List ℕ)
+        → list_any (passes test keys) places ≡ list_any test keys
+        → (b : Bool) → (tag == key_tag key) ≡ b
+        → list_any (passes test (key ∷ keys))
+        (if b then 0 ∷ map suc places else map suc places)
+        ≡ (test key || list_any test keys)
+    found_by key keys places ih true e =
+        ap (λ b. test key || b) (any_shift test key keys places ∙ ih)
+    found_by key keys places ih false e =
+        any_shift test key keys places ∙ ih
+        ∙ ap (λ b. b || list_any test keys) (sym (other key e))
 
-  pub found_by_places : (keys : List (FieldsView CdnskeyFields))
-      → list_any (passes test keys) (places_of tag keys) ≡ list_any test keys
-  found_by_places [] = refl
-  found_by_places (key ∷ keys) =
-      found_by key keys (places_of tag keys) (found_by_places keys) (tag == key_tag key) refl
+    pub found_by_places : (keys : List (FieldsView CdnskeyFields))
+        → list_any (passes test keys) (places_of tag keys) ≡ list_any test keys
+    found_by_places [] = refl
+    found_by_places (key ∷ keys) =
+        found_by key keys (places_of tag keys) (found_by_places keys) (tag == key_tag key) refl
 
 -- ---- a step of the loop
 

@@ -11,7 +11,8 @@ key_octets key =
     data_wire cdnskey
     (data_of (λ fields. fields.flags ∷ fields.protocol ∷ fields.algorithm ∷ []) key)
 
--- the sum of octets, each at an even place taken 256 times; whether the first stands at such a place
+-- the sum of octets, each at an even place taken 256 times; `is_even` says whether the first is at
+-- such a place
 abbrev pub octet_sum : Bool → List ℕ → ℕ
 octet_sum is_even [] = 0
 octet_sum true (octet ∷ octets) = 256 * octet + octet_sum false octets

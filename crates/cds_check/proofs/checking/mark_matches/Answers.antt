@@ -29,8 +29,8 @@ bounds-keys-place c =
 
 pub bounds-marks-place : goal.bounds-marks-place
 bounds-marks-place c =
-    let within = (place_in _ _ _ c.loop-place.place-index c.requires.places c.loop-place-test.true).within in
-    omega (arith, within, c.requires.len, c.loop-place.auto.marks)
+    let at = place_in _ _ _ c.loop-place.place-index c.requires.places c.loop-place-test.true in
+    omega (arith, at.within, c.requires.len, c.loop-place.auto.marks)
 
 pub is_match-requires : goal.is_match-requires
 is_match-requires c =
