@@ -30,6 +30,8 @@ mod parsers;
 #[cfg(test)]
 mod record_texts;
 #[cfg(test)]
+mod refused_scans;
+#[cfg(test)]
 mod scanning;
 #[cfg(test)]
 mod texts;

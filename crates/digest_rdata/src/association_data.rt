@@ -5,6 +5,7 @@ ghost use Rattle.std.specs.Ordering.{nat_cmp};
 ghost use Rattle.std.specs.Cmp.Lexicographic.{slice_cmp};
 ghost use Rattle.text_spec.specs.Layouts.{Token};
 ghost use Rattle.text_spec.specs.Scanning.{Scans, ScansPart};
+ghost use Rattle.text_spec.specs.ReadingBack.{ReadsBack};
 ghost use Rattle.dns_text.specs.Writing.{Writes, Shows};
 ghost use Rattle.wire_base.specs.Faults.{GivesCopy};
 ghost use Rattle.wire_base.specs.Input.{octets_left};
@@ -127,9 +128,14 @@ impl<F: AssociationFields> AssociationData<F> {
     ///   the first of them.
     /// - `LongRecord`: the data would have more than 65,535 octets. The scanner stands at the end of the entry.
     /// - `NoMemory`: allocation failed. The scanner is where it was before the call.
+    ///
+    /// Whatever the data, the tokens of its printed text are scanned as that data, or allocation fails.
+    #[tactic(auto, using(record_laws::proofs::ReadingBack::fields_read_back))]
     pub fn scan<S: Scanner>(alloc: Global, scanner: &mut S) -> Result<AssociationData<F>, ScanError>
-        ensures { Scans (data_of F.numbers) (scan_data F.definition)
+        ensures scans { Scans (data_of F.numbers) (scan_data F.definition)
             (S.scan scanner.old) (S.scan scanner.new) result }
+        ensures read_back { ReadsBack (data_of F.numbers) (IsAssociationData F.definition)
+            (fields_printed F.definition) (S.scan scanner.old) result }
     {
         let place = scanner.taken();
         let outcome = AssociationData::scan_parts(alloc, scanner);

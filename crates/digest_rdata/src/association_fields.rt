@@ -12,6 +12,7 @@ ghost use Rattle.record_spec.specs.Wire.{numbers_in, numbers_wire};
 ghost use Rattle.record_spec.specs.Texts.{numbers_printed};
 ghost use Rattle.record_spec.specs.Documents.{numbers_items, data_document};
 ghost use Rattle.record_spec.specs.Comparing.{numbers_hash_input};
+ghost use Rattle.record_laws.specs.RecordLaws.{IsLawfulRow};
 ghost use Rattle.digest_rdata.specs.Forms.{IsFormOf};
 ghost use Rattle.digest_rdata.specs.ScanningParts.{scan_numbers};
 
@@ -79,6 +80,9 @@ pub trait AssociationFields: Sealed + Copy + Ord + Hash + fmt::Debug + fmt::Disp
 
     /// The data of the record is laid out as a document.
     ghost is_document: { (found : Data) → IsDocument (data_document definition found) };
+
+    /// The record's texts are such as the laws of `record_laws` speak of.
+    ghost is_lawful: { IsLawfulRow definition };
 
     /// Fields are equal where their numbers are.
     ghost equal: { (a b : Self) → Self.eq a b ≡ pointwise ◌==◌ (numbers a) (numbers b) };

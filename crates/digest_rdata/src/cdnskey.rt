@@ -5,6 +5,7 @@ ghost use Rattle.std.specs.Ordering.{nat_cmp};
 ghost use Rattle.record_spec.specs.Rows.{cdnskey};
 ghost use Rattle.record_spec.specs.Texts.{numbers_printed};
 ghost use Rattle.record_spec.specs.DocumentLaws.{document-cdnskey};
+ghost use Rattle.record_laws.proofs.Types.{types_are};
 ghost use Rattle.digest_rdata.specs.ComparingLaws.{equal_three, then_three};
 ghost use Rattle.digest_rdata.specs.Making.{MakesData};
 
@@ -142,6 +143,8 @@ impl AssociationFields for CdnskeyFields {
     ghost prints = { λ fields. refl };
 
     ghost is_document = { document-cdnskey };
+
+    ghost is_lawful = { types_are.cdnskey_is };
 
     ghost equal = { λ a b. equal_three
         (a.flags == b.flags) (a.protocol == b.protocol) (a.algorithm == b.algorithm) };

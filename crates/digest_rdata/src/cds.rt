@@ -5,6 +5,7 @@ ghost use Rattle.std.specs.Ordering.{nat_cmp};
 ghost use Rattle.record_spec.specs.Rows.{cds};
 ghost use Rattle.record_spec.specs.Texts.{numbers_printed};
 ghost use Rattle.record_spec.specs.DocumentLaws.{document-cds};
+ghost use Rattle.record_laws.proofs.Types.{types_are};
 ghost use Rattle.digest_rdata.specs.ComparingLaws.{equal_three, then_three};
 ghost use Rattle.digest_rdata.specs.Making.{MakesData};
 
@@ -168,6 +169,8 @@ impl AssociationFields for CdsFields {
     ghost prints = { λ fields. refl };
 
     ghost is_document = { document-cds };
+
+    ghost is_lawful = { types_are.cds_is };
 
     ghost equal = { λ a b. equal_three
         (a.key_tag == b.key_tag) (a.algorithm == b.algorithm) (a.digest_type == b.digest_type) };

@@ -4,6 +4,7 @@ ghost use Rattle.std.specs.Prelude.{◌≡◌, ◌≤◌, [], Some, refl, length
 ghost use Rattle.record_spec.specs.Rows.{openpgpkey};
 ghost use Rattle.record_spec.specs.Texts.{numbers_printed};
 ghost use Rattle.record_spec.specs.DocumentLaws.{document-openpgpkey};
+ghost use Rattle.record_laws.proofs.Types.{types_are};
 ghost use Rattle.digest_rdata.specs.Making.{MakesData};
 
 use crate::association_data::AssociationData;
@@ -96,6 +97,8 @@ impl AssociationFields for OpenpgpkeyFields {
     ghost prints = { λ fields. refl };
 
     ghost is_document = { document-openpgpkey };
+
+    ghost is_lawful = { types_are.openpgpkey_is };
 
     ghost equal = { λ a b. refl };
 

@@ -5,6 +5,7 @@ ghost use Rattle.std.specs.Ordering.{nat_cmp};
 ghost use Rattle.record_spec.specs.Rows.{sshfp};
 ghost use Rattle.record_spec.specs.Texts.{numbers_printed};
 ghost use Rattle.record_spec.specs.DocumentLaws.{document-sshfp};
+ghost use Rattle.record_laws.proofs.Types.{types_are};
 ghost use Rattle.digest_rdata.specs.ComparingLaws.{equal_two, then_two};
 ghost use Rattle.digest_rdata.specs.Making.{MakesData};
 
@@ -140,6 +141,8 @@ impl AssociationFields for SshfpFields {
     ghost prints = { λ fields. refl };
 
     ghost is_document = { document-sshfp };
+
+    ghost is_lawful = { types_are.sshfp_is };
 
     ghost equal = { λ a b. equal_two
         (a.algorithm == b.algorithm) (a.fingerprint_type == b.fingerprint_type) };

@@ -5,6 +5,7 @@ ghost use Rattle.std.specs.Ordering.{nat_cmp};
 ghost use Rattle.record_spec.specs.Rows.{tlsa};
 ghost use Rattle.record_spec.specs.Texts.{numbers_printed};
 ghost use Rattle.record_spec.specs.DocumentLaws.{document-tlsa};
+ghost use Rattle.record_laws.proofs.Types.{types_are};
 ghost use Rattle.digest_rdata.specs.ComparingLaws.{equal_three, then_three};
 ghost use Rattle.digest_rdata.specs.Making.{MakesData};
 
@@ -174,6 +175,8 @@ impl AssociationFields for TlsaFields {
     ghost prints = { λ fields. refl };
 
     ghost is_document = { document-tlsa };
+
+    ghost is_lawful = { types_are.tlsa_is };
 
     ghost equal = { λ a b. equal_three
         (a.usage == b.usage) (a.selector == b.selector) (a.matching_type == b.matching_type) };

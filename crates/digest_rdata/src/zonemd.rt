@@ -5,6 +5,7 @@ ghost use Rattle.std.specs.Ordering.{nat_cmp};
 ghost use Rattle.record_spec.specs.Rows.{zonemd};
 ghost use Rattle.record_spec.specs.Texts.{numbers_printed};
 ghost use Rattle.record_spec.specs.DocumentLaws.{document-zonemd};
+ghost use Rattle.record_laws.proofs.Types.{types_are};
 ghost use Rattle.digest_rdata.specs.ComparingLaws.{equal_three, then_three};
 ghost use Rattle.digest_rdata.specs.Making.{MakesData};
 
@@ -162,6 +163,8 @@ impl AssociationFields for ZonemdFields {
     ghost prints = { λ fields. refl };
 
     ghost is_document = { document-zonemd };
+
+    ghost is_lawful = { types_are.zonemd_is };
 
     ghost equal = { λ a b. equal_three
         (a.serial == b.serial) (a.scheme == b.scheme) (a.algorithm == b.algorithm) };

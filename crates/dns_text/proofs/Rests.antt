@@ -9,6 +9,11 @@ use Rattle.text_spec.specs.declared.errors.ScanError.TheVariants.{NoMemory}
 use Rattle.text_spec.specs.declared.lexeme.Symbol.{Symbol}
 use Rattle.text_spec.specs.Scanning.{Scan, Scans, Answers, StandsAt, Scanned, octets_of, done, refused, rest_by, at_token, next_token, one, any_octets}
 use Rattle.text_spec.specs.Rows.{rest_octets}
+use Rattle.text_spec.specs.Pieces.{token_groups}
+use Rattle.text_spec.specs.declared.lexeme.Lexeme.{Lexeme}
+use Rattle.std.proofs.lemmas.List.{append-nil, length-drop}
+use Rattle.dns_text.specs.Reading.{AppendsToken, BeginsToken}
+use Rattle.dns_text.proofs.NextTokens.{grouped-begins, is_next, more_left}
 
 -- a token that was taken is the first of those that were left
 next-octets : (tokens : List (List Symbol)) (n : ℕ) (next : List ℕ)
@@ -117,4 +122,69 @@ rest_scan view read fault old mid new text outcome joined answer after =
           old.taken k) (sym taken)
           (rest_end-place view fault old.taken count (read whole) outcome means);
       tokens = ap (λ (s : Scan). s.tokens) after ∙ joined.tokens;
+    }
+
+-- ---- tokens that are read one behind the other
+
+-- the tokens before this place are read into these octets, and these lexemes are left
+pub record AreRead (tokens : List (List Symbol)) (began now : ℕ) (lexemes : List Lexeme)
+    (octets : List ℕ) : Type 0 where
+  pub left : token_groups None lexemes ≡ drop now tokens
+  pub further : began ≤ now
+  pub within : now ≤ length tokens
+  pub joined : octets ++ flat_map octets_of (drop now tokens)
+      ≡ flat_map octets_of (drop began tokens)
+
+pub read_none : (tokens : List (List Symbol)) (began : ℕ) (lexemes : List Lexeme)
+    → token_groups None lexemes ≡ drop began tokens → began ≤ length tokens
+    → AreRead tokens began began lexemes []
+read_none tokens began lexemes left within =
+    record { left = left; further = omega arith; within = within; joined = refl }
+
+-- where a token begins, one is left
+pub read_more : (tokens : List (List Symbol)) (began now : ℕ) (lexemes found : List Lexeme)
+    (octets : List ℕ) → AreRead tokens began now lexemes octets
+    → token_groups None found ≡ token_groups None lexemes → BeginsToken found
+    → now < length tokens
+read_more tokens began now lexemes found octets are same begins =
+    more_left found tokens now (sym (grouped-begins found begins) ∙ same ∙ are.left)
+
+-- and is read
+pub read_next : (tokens : List (List Symbol)) (began now : ℕ) (lexemes found behind : List Lexeme)
+    (octets more : List ℕ) → AreRead tokens began now lexemes octets
+    → token_groups None found ≡ token_groups None lexemes → BeginsToken found
+    → AppendsToken found behind octets more → AreRead tokens began (now + 1) behind more
+read_next tokens began now lexemes found behind octets more are same begins read =
+    let first : drop now tokens ≡ read.token ∷ token_groups None behind =
+    sym are.left ∙ sym same ∙ grouped-begins found begins ∙ read.passed in
+    let next = is_next tokens now read.token (token_groups None behind) first in
+    record {
+      left = next.behind;
+      further = omega (arith, are.further);
+      within = omega (arith, next.more);
+      joined =
+          ap (λ (t : List ℕ). t ++ flat_map octets_of (drop (now + 1) tokens)) read.appended
+          ∙ append_assoc octets (octets_of read.token) (flat_map octets_of (drop (now + 1) tokens))
+          ∙ ap (λ (behind_it : List (List Symbol)). octets
+          ++ (octets_of read.token ++ flat_map octets_of behind_it)) (sym next.behind)
+          ∙ ap (λ (left : List (List Symbol)). octets ++ flat_map octets_of left) (sym first)
+          ∙ are.joined;
+    }
+
+-- all tokens that were left are read
+pub record AreAllRead (tokens : List (List Symbol)) (began now : ℕ) (octets : List ℕ)
+    : Type 0 where
+  pub end : now ≡ length tokens
+  pub joined : octets ≡ flat_map octets_of (drop began tokens)
+
+pub read_all : (tokens : List (List Symbol)) (began now : ℕ) (lexemes found : List Lexeme)
+    (octets : List ℕ) → AreRead tokens began now lexemes octets
+    → token_groups None found ≡ token_groups None lexemes → found ≡ []
+    → AreAllRead tokens began now octets
+read_all tokens began now lexemes found octets are same none =
+    let left : [] ≡ drop now tokens = ap (token_groups None) (sym none) ∙ same ∙ are.left in
+    record {
+      end = omega (arith, are.within, ap length left, length-drop now tokens);
+      joined = sym (append-nil octets)
+          ∙ ap (λ (t : List (List Symbol)). octets ++ flat_map octets_of t) left ∙ are.joined;
     }

@@ -56,7 +56,11 @@ impl<'t> Entry<'t> {
         ensures refused { (fault : _) → HasFault 0 text.now fault → IsErrOf result fault }
     {
         let mut lexer = Lexer::new(text);
-        while lexer.next()?.is_some() {}
-        Ok(Entry { text })
+        loop {
+            lexer.take_bare();
+            if lexer.next()?.is_none() {
+                return Ok(Entry { text });
+            }
+        }
     }
 }

@@ -25,15 +25,18 @@ fn is_marker(symbol: Symbol) -> bool
 #[derive(Debug, Drop)]
 pub struct EntryScanner<'t> {
     entry: Entry<'t>,
+    // From the next token on, if there is one.
     lexemes: Lexemes<'t>,
+    has_next: bool,
     taken: usize,
 }
 
 impl<'t> Model for EntryScanner<'t> {
-    ghost use Rattle.std.specs.Prelude.{◌≡◌, ◌≤◌, ◌<◌, ◌^◌, length, drop, None};
+    ghost use Rattle.std.specs.Prelude.{◌≡◌, ◌≤◌, ◌<◌, ◌^◌, length, drop, None, [], MatchBool};
     ghost use Rattle.text_spec.specs.Pieces.{token_groups};
     ghost use Rattle.text_spec.specs.Tokens.{tokens_in};
     ghost use Rattle.text_spec.specs.Scanning.{Scan};
+    ghost use Rattle.dns_text.specs.Reading.{BeginsToken};
 
     ghost Value = { Scan };
 
@@ -45,6 +48,7 @@ impl<'t> Model for EntryScanner<'t> {
     ghost invariant = { λ scanner. record {
       left : token_groups None scanner.lexemes
           ≡ drop scanner.taken (tokens_in scanner.entry.text.now);
+      next : MatchBool scanner.has_next (BeginsToken scanner.lexemes) (scanner.lexemes ≡ []);
       within : scanner.taken ≤ length (tokens_in scanner.entry.text.now);
       short : length (tokens_in scanner.entry.text.now) < 2 ^ 64;
     } };
@@ -55,9 +59,12 @@ impl<'t> EntryScanner<'t> {
     pub fn new(entry: Entry<'t>) -> EntryScanner<'t>
         ensures { result ≡ record { tokens = tokens_in entry.entry.text.now; taken = 0 } }
     {
+        let mut lexemes = Lexemes::new(entry);
+        let has_next = lexemes.find_token();
         EntryScanner {
             entry,
-            lexemes: Lexemes::new(entry),
+            lexemes,
+            has_next,
             taken: 0,
         }
     }
@@ -70,11 +77,10 @@ impl<'t> EntryScanner<'t> {
         ensures end { OnErr result (length self.now.tokens ≤ self.now.taken) }
         ensures err { IfErr result (λ fault. fault ≡ ScanError.EndOfEntry) }
     {
-        let mut lexemes = self.lexemes.copy();
-        if !lexemes.find_token() {
+        if !self.has_next {
             return Err(ScanError::EndOfEntry);
         }
-        Ok(lexemes)
+        Ok(self.lexemes.copy())
     }
 
     // The next token's symbols, and the lexemes behind it.
@@ -101,9 +107,7 @@ impl<'t> EntryScanner<'t> {
     {
         let mut lexemes = self.next_token()?;
         let mut octets = Vec::new(alloc);
-        while let Some(symbol) = lexemes.next_symbol() {
-            octets.push(symbol.octet)?;
-        }
+        lexemes.append_token(&mut octets)?;
         Ok((Octets::from_vec(octets), lexemes))
     }
 
@@ -112,7 +116,9 @@ impl<'t> EntryScanner<'t> {
         requires { IsBehindNext self.old (token_groups None behind) }
         ensures { self.new ≡ record self.old { taken = self.old.taken + 1 } }
     {
-        self.lexemes = behind;
+        let mut lexemes = behind;
+        self.has_next = lexemes.find_token();
+        self.lexemes = lexemes;
         self.taken += 1;
     }
 }
@@ -134,6 +140,7 @@ impl<'t> Scanner for EntryScanner<'t> {
         for _ in 0..taken {
             lexemes.pass_token();
         }
+        self.has_next = lexemes.find_token();
         self.lexemes = lexemes;
         self.taken = taken;
     }
@@ -149,6 +156,21 @@ impl<'t> Scanner for EntryScanner<'t> {
         let (octets, behind) = self.peek_octets(alloc)?;
         self.take(behind);
         Ok(octets)
+    }
+
+    // All tokens go into one buffer.
+    fn scan_rest(&mut self, alloc: Global) -> Result<Octets, ScanError> {
+        let mut lexemes = self.lexemes.copy();
+        let mut octets = Vec::new(alloc);
+        let mut taken = self.taken;
+        while lexemes.find_token() {
+            lexemes.append_token(&mut octets)?;
+            taken += 1;
+        }
+        self.lexemes = lexemes;
+        self.has_next = false;
+        self.taken = taken;
+        Ok(Octets::from_vec(octets))
     }
 
     fn scan_opt_unknown_marker(&mut self) -> bool {

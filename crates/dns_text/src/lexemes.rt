@@ -1,14 +1,14 @@
 //! The lexemes of an entry, which its tokens are made of.
 
-ghost use Rattle.std.specs.Prelude.{◌≡◌, ◌≤◌, ◌<◌, [], ◌∷◌, length, drop, None, IsSome, MatchOption, MatchBool};
+ghost use Rattle.std.specs.Prelude.{◌≡◌, ◌≤◌, ◌<◌, [], ◌∷◌, length, drop, None, IsSome, MatchOption, MatchBool, OnOk, IfErr};
 ghost use Rattle.text_spec.specs.Pieces.{token_groups};
 ghost use Rattle.text_spec.specs.Tokens.{tokens_in};
-ghost use Rattle.dns_text.specs.Reading.{BeginsToken, GoesOn};
+ghost use Rattle.dns_text.specs.Reading.{AppendsToken, BeginsToken, GoesOn, GoesOnWith};
 
 use crate::entry::Entry;
 use crate::lexer::Lexer;
 use std::marker::Model;
-use text_spec::{Lexeme, Symbol};
+use text_spec::{Lexeme, ScanError, Symbol};
 
 /// The lexemes of an entry that are left.
 #[derive(Debug, Drop)]
@@ -73,6 +73,14 @@ impl<'t> Lexemes<'t> {
         }
     }
 
+    /// Takes the octets in front that stand for themselves, of a token that is read.
+    fn take_bare(&mut self) -> &'t [u8]
+        ensures symbols { GoesOnWith result.now self.old self.new }
+        ensures no_longer { length self.new ≤ length self.old }
+    {
+        self.lexer.take_bare()
+    }
+
     /// The next symbol of a token, or none where it ends.
     #[inline(always)]
     pub(crate) fn next_symbol(&mut self) -> Option<Symbol>
@@ -85,6 +93,21 @@ impl<'t> Lexemes<'t> {
                 Some(Lexeme::Quote) => {}
                 Some(Lexeme::Gap) | None => return None,
             }
+        }
+    }
+
+    /// Appends the octets of the token that is read, and passes over it.
+    pub(crate) fn append_token(&mut self, target: &mut Vec<u8>) -> Result<(), ScanError>
+        ensures ok { OnOk result
+            (AppendsToken self.old self.new target.old.items target.new.items) }
+        ensures err { IfErr result (λ fault. fault ≡ ScanError.NoMemory) }
+    {
+        loop {
+            target.extend_from_slice(self.take_bare())?;
+            let Some(symbol) = self.next_symbol() else {
+                return Ok(());
+            };
+            target.push(symbol.octet)?;
         }
     }
 

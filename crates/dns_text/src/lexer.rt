@@ -1,10 +1,11 @@
 //! Reading the text of one entry from left to right.
 
-ghost use Rattle.std.specs.Prelude.{◌≡◌, ◌==◌, ◌&&◌, ◌||◌, not, false, ◌+◌, ◌^◌, ◌≤◌, ◌<◌, [], length, IsSome, IfSome, IfOk, MatchResult};
+ghost use Rattle.std.specs.Prelude.{◌≡◌, ◌==◌, ◌&&◌, ◌||◌, not, false, ◌+◌, ◌^◌, ◌≤◌, ◌<◌, [], length, take, drop, IsSome, IfSome, IfOk, MatchResult};
 ghost use Rattle.text_spec.specs.Pieces.{is_bare, is_blank, is_control};
 ghost use Rattle.text_spec.specs.Lexing.{escape_of, line_len, step_of, with_depth, in_quotes, symbol_step, quoted_step, ended_step, open_step, step, lexemes_at, end_at};
 ghost use Rattle.text_spec.specs.Tokens.{start};
-ghost use Rattle.dns_text.specs.Reading.{StaysWithin, Takes};
+ghost use Rattle.std.specs.List.{prefix_len};
+ghost use Rattle.dns_text.specs.Reading.{StaysWithin, Takes, with_bare};
 
 use text_spec::{Lexeme, LexerState, LexerStep, ScanError, Symbol};
 
@@ -179,6 +180,22 @@ fn is_bare_at(state: LexerState, octet: u8) -> bool
     (state.quoted || !state.ended) && is_bare(octet)
 }
 
+// How many octets stand for themselves before one that doesn't.
+fn bare_len(text: &[u8]) -> usize
+    ensures { result ≡ prefix_len is_bare text.now }
+{
+    text.iter().take_while(|octet| is_bare(**octet)).count()
+}
+
+// How many octets in front are read as themselves here.
+fn bare_len_at(state: LexerState, text: &[u8]) -> usize
+    ensures read { lexemes_at state 0 text.now
+        ≡ with_bare (take result text.now) (lexemes_at state 0 (drop result text.now)) }
+    ensures within { result ≤ length text.now }
+{
+    if state.ended { 0 } else { bare_len(text) }
+}
+
 // Not inlined, so that the short way of `Lexer::next` stays small.
 #[inline(never)]
 #[tactic(auto, unfolding(text_spec::specs::Lexing::step))]
@@ -225,6 +242,17 @@ impl<'t> Lexer<'t> {
             rest: text,
             state: START,
         }
+    }
+
+    // Takes the octets in front that stand for themselves.
+    pub(crate) fn take_bare(&mut self) -> &'t [u8]
+        ensures taken { lexemes_at self.old.state 0 self.old.rest.now
+            ≡ with_bare result.now (lexemes_at self.new.state 0 self.new.rest.now) }
+        ensures no_longer { length self.new.rest.now ≤ length self.old.rest.now }
+    {
+        let (bare, rest) = self.rest.split_at(bare_len_at(self.state, self.rest));
+        self.rest = rest;
+        bare
     }
 
     // The next lexeme, or none at the text's end. Octets that stand for themselves, which most do, are read without a

@@ -1,4 +1,3 @@
-pub mod NameLen
 pub mod Orders
 pub mod PrintedData
 pub mod ScannedFields

@@ -54,7 +54,7 @@ impl IpseckeyGateway {
     }
 
     /// The count of octets in the data.
-    #[tactic(auto, using(record_spec::proofs::OctetLists::labels_octets))]
+    #[tactic(auto, using(text_spec::proofs::OctetParts::labels_octets))]
     pub fn rdlen(&self) -> u16
         ensures len { result ≡ length (gateway_wire (gateway_of self.now)) }
         ensures fits { result ≤ 255 }
@@ -95,27 +95,9 @@ impl IpseckeyGateway {
         ensures form { IsErrOf result errors.Form
             ↔ (gateway_read gateway_type parser.old ≡ Err Form) }
     {
-        let start = parser.pos();
-        let outcome = IpseckeyGateway::copy_next(alloc, parser, gateway_type);
-        if outcome.is_err() {
-            parser.seek(start)?;
-        }
-        outcome
-    }
-
-    /// The same, but on an error the parser stands anywhere within the data.
-    fn copy_next(
-        alloc: Global,
-        parser: &mut Parser<'_>,
-        gateway_type: IpseckeyGatewayType,
-    ) -> Result<IpseckeyGateway, ParseError>
-        ensures answer { GivesCopy
-            (λ found. record { value = gateway_of found; next = parser.new.pos })
-            result (gateway_read gateway_type parser.old) }
-        ensures within { parser.new ≡ record parser.old { pos = parser.new.pos } }
-    {
-        let found = GatewayRef::read(parser, gateway_type)?;
-        let gateway = found.to_gateway(alloc)?;
+        let mut ahead = parser.fork();
+        let gateway = GatewayRef::read(&mut ahead, gateway_type)?.to_gateway(alloc)?;
+        *parser = ahead;
         Ok(gateway)
     }
 

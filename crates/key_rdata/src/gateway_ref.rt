@@ -72,7 +72,5 @@ fn read_name<'a>(parser: &mut Parser<'a>) -> Result<ParsedName<'a>, ParseError>
     if name.is_compressed() {
         return Err(ParseError::Form);
     }
-    // The place lies within the data: so the name has as many octets as were passed.
-    let _place = parser.pos();
     Ok(name)
 }

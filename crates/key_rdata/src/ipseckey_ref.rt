@@ -49,18 +49,14 @@ impl<'a> IpseckeyRef<'a> {
         })
     }
 
-    /// The data in all octets before the end of the data. The parser is unchanged.
-    pub(crate) fn peek(parser: &mut Parser<'a>) -> Result<IpseckeyRef<'a>, ParseError>
+    /// The data in all octets before the end of the data. The parser stays.
+    pub(crate) fn peek(parser: &Parser<'a>) -> Result<IpseckeyRef<'a>, ParseError>
         ensures answer { Gives
-            (λ found. record { value = ipseckey_of_ref found; next = parser.old.end })
-            result (ipseckey_read parser.old) }
+            (λ found. record { value = ipseckey_of_ref found; next = parser.now.end })
+            result (ipseckey_read parser.now) }
         ensures fits { IfOk result (λ found. ipseckey_len (ipseckey_of_ref found) ≤ 65535) }
-        ensures stays { parser.new ≡ parser.old }
     {
-        let start = parser.pos();
-        let found = IpseckeyRef::read(parser);
-        parser.seek(start)?;
-        found
+        IpseckeyRef::read(&mut parser.fork())
     }
 
     /// The same data by itself.

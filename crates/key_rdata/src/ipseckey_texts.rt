@@ -2,6 +2,8 @@
 
 ghost use Rattle.std.specs.Prelude.{◌≡◌, ◌+◌, false, length, Some, IfOk, OnOk, IsErrOf};
 ghost use Rattle.text_spec.specs.Scanning.{Scan, Scans, ScansPart};
+ghost use Rattle.text_spec.specs.ReadingBack.{ReadsBack};
+ghost use Rattle.record_laws.specs.RecordLaws.{IsKeyedIpseckey};
 ghost use Rattle.record_spec.specs.Ipseckeys.{lacks_key};
 ghost use Rattle.record_spec.specs.IpseckeyTexts.{scan_ipseckey, ipseckey_printed, ipseckey_document};
 ghost use Rattle.dns_text.specs.Writing.{Shows};
@@ -36,9 +38,14 @@ impl Ipseckey {
     ///   entry.
     /// - `LongRecord`: the data would have more than 65,535 octets. The scanner stands at the end of the entry.
     /// - `NoMemory`: allocation failed. The scanner is where it was before the call.
+    ///
+    /// The tokens of the printed text of data whose key isn't missing are scanned as that data, or allocation fails.
+    #[tactic(auto, using(record_laws::proofs::ReadingBack::ipseckey_read_back))]
     pub fn scan<S: Scanner>(alloc: Global, scanner: &mut S) -> Result<Ipseckey, ScanError>
         ensures scans { Scans (λ found. found) scan_ipseckey
             (S.scan scanner.old) (S.scan scanner.new) result }
+        ensures read_back { ReadsBack (λ found. found) IsKeyedIpseckey ipseckey_printed
+            (S.scan scanner.old) result }
 
         // What is scanned has the key that it needs. The error for a missing key comes behind all tokens, that for an
         // unknown type of gateway behind the three numbers.

@@ -6,3 +6,4 @@ pub mod NameTruncation
 mod Vectors
 pub mod AddressTexts
 pub mod OctetOrders
+pub mod NameLengths

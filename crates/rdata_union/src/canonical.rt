@@ -59,11 +59,11 @@ impl RecordDataRef<'_> {
 }
 
 /// The order of the octets of an SVCB or HTTPS record's data against others.
-fn svcb_cmp<V>(data: &SvcbRdata<V>, octets: &[u8]) -> Ordering
+fn svcb_cmp<V>(found: &SvcbRdata<V>, octets: &[u8]) -> Ordering
     ensures { result ≡ slice_cmp nat_cmp
-        (rdata data.now.priority data.now.labels data.now.pairs) octets.now }
+        (rdata found.now.priority found.now.labels found.now.pairs) octets.now }
 {
-    let (by_priority, octets) = prefix_cmp(&data.priority().to_be_bytes(), octets);
-    let (by_target, octets) = prefix_cmp(data.target().as_slice(), octets);
-    by_priority.then(by_target.then(data.params().as_slice().cmp(octets)))
+    let (by_priority, octets) = prefix_cmp(&found.priority().to_be_bytes(), octets);
+    let (by_target, octets) = prefix_cmp(found.target().as_slice(), octets);
+    by_priority.then(by_target.then(found.params().as_slice().cmp(octets)))
 }

@@ -1,5 +1,5 @@
 -- The texts of data, printed or laid out, are scanned as that data.
-use Rattle.std.proofs.Common.{◌≡◌, ℕ, zero, suc, ◌<◌, get_or, ◌+◌, ◌/◌, ◌%◌, Bool, true, false, List, [], ◌∷◌, ◌++◌, length, Some, refl, sym, ap, ◌∙◌, subst, arith}
+use Rattle.std.proofs.Common.{◌≡◌, ℕ, zero, suc, ◌<◌, get_or, ◌+◌, ◌/◌, ◌%◌, Bool, true, false, List, [], ◌∷◌, ◌++◌, length, Some, refl, sym, ap, ap₂, ◌∙◌, subst, length-append, arith}
 use Rattle.std.proofs.lemmas.List.{length-map}
 use Rattle.std.proofs.lemmas.Bool.{and_parts}
 use Rattle.std.specs.List.{list_all}
@@ -23,7 +23,7 @@ use Rattle.record_spec.specs.Rows.{Row, Data, IsAssociationData, data_len}
 use Rattle.record_spec.specs.Texts.{rest_encoded, scan_last, scan_data, within_length, last_printed, fields_printed}
 use Rattle.record_spec.specs.Documents.{numbers_items, last_field_text, data_document}
 use Rattle.record_spec.specs.DocumentLaws.{document-data}
-use Rattle.record_laws.specs.RecordLaws.{AreSmall, FieldsTextReadBack, FieldsLayoutReadBack}
+use Rattle.record_laws.specs.RecordLaws.{AreSmall, AreScannedAs, FieldsTextReadBack, FieldsLayoutReadBack}
 use Rattle.record_laws.proofs.Scans.{assoc, rest_taken, within}
 use Rattle.record_laws.proofs.Texts.{number_token, number_tokens, each_small, numbers_scanned, numbers_on, numbers_front, text_tokens, octets-text_tokens, bare_text, bracketed_text, last_front, text_of}
 
@@ -104,20 +104,31 @@ data_tokens found text = number_tokens found.numbers ++ text_tokens text
 -- they are scanned as it
 data_scanned : (row : Row) (found : Data) (text : List ℕ) → AreSmall row.fields
     → IsAssociationData row found → IsRead row.encoding text found.last
-    → scan_data row (data_tokens found text) 0 ≡ done found (length (data_tokens found text))
-data_scanned row found text small is read =
-    let tokens = data_tokens found text in
-    let front = number_tokens found.numbers in
+    → AreScannedAs (scan_data row) (data_tokens found text) found
+data_scanned row found text small is read front =
+    let numbers = number_tokens found.numbers in
+    let last = text_tokens text in
+    let taken = front ++ numbers in
+    let tokens = taken ++ last in
     let onward : List ℕ → ℕ → Scanned Data =
     λ octets end. within_length row (record { numbers = found.numbers; last = octets }) tokens
     end in
-    let place : 0 + length found.numbers ≡ length front =
-    omega (arith, length-map found.numbers number_token) in
-    numbers_scanned row.fields found.numbers small is.numbers (scan_last row) [] (text_tokens text)
-    ∙ ap (λ (at : ℕ). scan_last row found.numbers tokens at) place
+    let moved : front ++ (numbers ++ last) ≡ tokens = sym (assoc front numbers last) in
+    let place : length front + length found.numbers ≡ length taken =
+    omega (arith, length-append front numbers, length-map found.numbers number_token) in
+    let end : length tokens ≡ length front + length (numbers ++ last) =
+    omega (
+      arith,
+      length-append taken last,
+      length-append front numbers,
+      length-append numbers last,
+    ) in
+    numbers_scanned row.fields found.numbers small is.numbers (scan_last row) front last
+    ∙ ap₂ (λ (ts : List (List Symbol)) (at : ℕ). scan_last row found.numbers ts at) moved place
     ∙ ap (λ (s : Scanned (List ℕ)). scan_then s onward)
-    (rest_scanned row.encoding text found.last front read)
+    (rest_scanned row.encoding text found.last taken read)
     ∙ within (data_len row found) (length tokens) LongRecord found is.fits
+    ∙ ap (done found) end
 
 pub data_text_again : FieldsTextReadBack
 data_text_again row is_row found is =

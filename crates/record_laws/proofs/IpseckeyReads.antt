@@ -15,7 +15,7 @@ use Rattle.wire_base.specs.RecordReading.{DataRead}
 use Rattle.wire_records.specs.Reading.{next_octets, address_read}
 use Rattle.record_spec.specs.Ipseckeys.{Gateway, NoGateway, Ipv4Gateway, Ipv6Gateway, NameGateway, gateway_type, gateway_wire, Ipseckey, lacks_key, IsAddress, IsGateway}
 use Rattle.record_spec.specs.IpseckeyWire.{as_gateway, name_gateway, gateway_read, key_read}
-use Rattle.record_spec.proofs.OctetLists.{AreOctets-split, labels_octets}
+use Rattle.text_spec.proofs.OctetParts.{AreOctets-split, labels_octets}
 use Rattle.record_laws.specs.RecordLaws.{IsReadWhole, IpseckeyComposedBack}
 use Rattle.record_laws.proofs.Octets.{above}
 

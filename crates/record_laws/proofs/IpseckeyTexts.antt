@@ -1,5 +1,5 @@
 -- The texts of the data of IPSECKEY records, printed or laid out, are scanned as that data.
-use Rattle.std.proofs.Common.{◌≡◌, ℕ, ◌+◌, ◌<◌, Bool, true, false, cond, List, [], ◌∷◌, ◌++◌, length, Option, Some, Ok, refl, sym, ap, ◌∙◌, subst, arith}
+use Rattle.std.proofs.Common.{◌≡◌, ℕ, ◌+◌, ◌<◌, Bool, true, false, cond, List, [], ◌∷◌, ◌++◌, length, Option, Some, Ok, refl, sym, ap, ap₂, ◌∙◌, subst, length-append, arith}
 use Rattle.std.specs.Prelude.{codes, nat_lt}
 use Rattle.std.specs.Fmt.{decimal}
 use Rattle.std.specs.Option.{ok_or}
@@ -23,8 +23,8 @@ use Rattle.record_spec.specs.Texts.{numbers_printed, last_printed}
 use Rattle.record_spec.specs.Ipseckeys.{Gateway, NoGateway, Ipv4Gateway, Ipv6Gateway, NameGateway, gateway_type, Ipseckey, lacks_key, ipseckey_len, IsGateway, IsIpseckey}
 use Rattle.record_spec.specs.IpseckeyTexts.{no_gateway_of, scan_gateway, complete_ipseckey, scan_ipseckey, gateway_text, ipseckey_printed, type_comment, algorithm_comment, ipseckey_document}
 use Rattle.record_spec.specs.DocumentLaws.{document-ipseckey}
-use Rattle.record_laws.specs.RecordLaws.{IpseckeyTextReadBack, IpseckeyLayoutReadBack}
-use Rattle.record_laws.proofs.Scans.{assoc, one_taken, rest_taken, within}
+use Rattle.record_laws.specs.RecordLaws.{AreScannedAs, IpseckeyTextReadBack, IpseckeyLayoutReadBack}
+use Rattle.record_laws.proofs.Scans.{assoc, moved_on, place_on, one_taken, rest_taken, within}
 use Rattle.record_laws.proofs.Texts.{number_token, number_scanned, numbers_on, number_front, token_front, text_tokens, octets-text_tokens, bracketed_text, last_front, text_of}
 
 -- ---- the gateway
@@ -150,37 +150,56 @@ completed found tokens end is has =
 -- they are scanned as it
 data_scanned : (found : Ipseckey) (token : List Symbol) → IsGatewayToken found.gateway token
     → IsIpseckey found → lacks_key found.algorithm found.key ≡ false
-    → scan_ipseckey (tokens_of_data found token) 0
-    ≡ done found (length (tokens_of_data found token))
-data_scanned found token gateway is has =
+    → AreScannedAs scan_ipseckey (tokens_of_data found token) found
+data_scanned found token gateway is has front =
     let p = found.precedence in
     let t = gateway_type found.gateway in
     let a = found.algorithm in
-    let tokens = tokens_of_data found token in
     let rest = key_tokens found token in
     let few = type_small found.gateway in
     let small = is.precedence in
     let small_too = is.algorithm in
-    let first : List (List Symbol) = number_token p ∷ [] in
-    let second : List (List Symbol) = number_token p ∷ number_token t ∷ [] in
-    let third : List (List Symbol) = number_token p ∷ number_token t ∷ number_token a ∷ [] in
-    let fourth : List (List Symbol) = number_token p ∷ number_token t ∷ number_token a ∷ token ∷ []
-    in
-    ap (λ (s : Scanned ℕ). scan_then s (behind_precedence tokens))
-    (number_scanned 256 p [] (number_token t ∷ number_token a ∷ token ∷ rest) small
-    (omega arith))
-    ∙ ap (λ (s : Scanned ℕ). scan_then s (behind_type tokens p))
-    (number_scanned 256 t first (number_token a ∷ token ∷ rest) (omega arith) (omega arith))
-    ∙ ap (λ (s : Scanned ℕ). scan_then s (behind_algorithm tokens p t))
-    (number_scanned 256 a second (token ∷ rest) small_too (omega arith))
-    ∙ ap (λ (s : Scanned Gateway). scan_then s (behind_gateway tokens p a))
+    -- the tokens behind each part, and those before it
+    let behind_a : List (List Symbol) = token ∷ rest in
+    let behind_t : List (List Symbol) = number_token a ∷ behind_a in
+    let behind_p : List (List Symbol) = number_token t ∷ behind_t in
+    let first = front ++ number_token p ∷ [] in
+    let second = first ++ number_token t ∷ [] in
+    let third = second ++ number_token a ∷ [] in
+    let fourth = third ++ token ∷ [] in
+    let end : length (fourth ++ rest) ≡ length front + length (tokens_of_data found token) =
+    omega (
+      arith,
+      length-append fourth rest,
+      length-append third (token ∷ []),
+      length-append second (number_token a ∷ []),
+      length-append first (number_token t ∷ []),
+      length-append front (number_token p ∷ []),
+    ) in
+    ap (λ (s : Scanned ℕ). scan_then s (behind_precedence (front ++ number_token p ∷ behind_p)))
+    (number_scanned 256 p front behind_p small (omega arith))
+    ∙ ap₂ (λ (ts : List (List Symbol)) (at : ℕ). behind_precedence ts p at)
+    (moved_on front behind_p (number_token p)) (place_on front (number_token p))
+    ∙ ap (λ (s : Scanned ℕ). scan_then s (behind_type (first ++ behind_p) p))
+    (number_scanned 256 t first behind_t (omega arith) (omega arith))
+    ∙ ap₂ (λ (ts : List (List Symbol)) (at : ℕ). behind_type ts p t at)
+    (moved_on first behind_t (number_token t)) (place_on first (number_token t))
+    ∙ ap (λ (s : Scanned ℕ). scan_then s (behind_algorithm (second ++ behind_t) p t))
+    (number_scanned 256 a second behind_a small_too (omega arith))
+    ∙ ap₂ (λ (ts : List (List Symbol)) (at : ℕ). behind_algorithm ts p t a at)
+    (moved_on second behind_a (number_token a)) (place_on second (number_token a))
+    ∙ ap (λ (s : Scanned Gateway). scan_then s (behind_gateway (third ++ behind_a) p a))
     (gateway.scanned third rest)
+    ∙ ap₂ (λ (ts : List (List Symbol)) (at : ℕ). behind_gateway ts p a found.gateway at)
+    (moved_on third rest token) (place_on third token)
     ∙ ap (λ (s : Scanned (List ℕ)). scan_then s
     (λ key end. complete_ipseckey
-    (record { precedence = p; algorithm = a; gateway = found.gateway; key = key }) tokens end))
+    (record { precedence = p; algorithm = a; gateway = found.gateway; key = key })
+    (fourth ++ rest) end))
     (rest_taken base64_of BadBase64 fourth rest found.key
     (ap base64_of (octets-text_tokens (base64_text found.key)) ∙ base64_again found.key is.key))
-    ∙ completed found tokens (length tokens) is has
+    ∙ completed found (fourth ++ rest) (length (fourth ++ rest)) is has
+    ∙ ap (done found) end
 
 -- ---- printed
 

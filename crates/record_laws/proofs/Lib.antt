@@ -3,6 +3,7 @@ pub mod Octets
 pub mod Scans
 pub mod Texts
 pub mod Data
+pub mod ReadingBack
 pub mod Types
 pub mod IpseckeyTexts
 pub mod IpseckeyOctets

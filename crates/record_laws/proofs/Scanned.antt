@@ -19,7 +19,7 @@ use Rattle.record_spec.specs.declared.Encoding.{Encoding}
 use Rattle.record_spec.specs.declared.Encoding.TheVariants.{Base16, Base64}
 use Rattle.record_spec.specs.Rows.{Field, Row, Data, AreNumbers, IsAssociationData, data_len}
 use Rattle.record_spec.specs.Texts.{numbers_then, rest_encoded, within_length, scan_last}
-use Rattle.record_spec.proofs.OctetLists.{AreOctets-split}
+use Rattle.text_spec.proofs.OctetParts.{AreOctets-split}
 use Rattle.record_laws.specs.RecordLaws.{ScannedIsData}
 use Rattle.record_laws.proofs.Octets.{above}
 

@@ -16,7 +16,7 @@ use Rattle.text_spec.specs.NameTexts.{is_bare_octet, is_lone, onto_first, dotted
 use Rattle.text_spec.proofs.EncodingTexts.{AreOctets-append}
 use Rattle.text_spec.proofs.NameTexts.{AreLabels-are_labels}
 use Rattle.record_spec.specs.Ipseckeys.{IsAddress}
-use Rattle.record_spec.proofs.OctetLists.{AreOctets-split}
+use Rattle.text_spec.proofs.OctetParts.{AreOctets-split}
 
 -- ---- IPv4
 

@@ -12,7 +12,7 @@ use Rattle.text_spec.specs.Rows.{number_below, by_name, name, ipv4_address, ipv6
 use Rattle.record_spec.specs.declared.Encoding.TheVariants.{Base64}
 use Rattle.record_spec.specs.Ipseckeys.{Gateway, NoGateway, Ipv4Gateway, Ipv6Gateway, NameGateway, Ipseckey, lacks_key, ipseckey_len, IsGateway, IsIpseckey}
 use Rattle.record_spec.specs.IpseckeyTexts.{no_gateway_of, scan_gateway, complete_ipseckey}
-use Rattle.record_spec.proofs.OctetLists.{AreOctets-split}
+use Rattle.text_spec.proofs.OctetParts.{AreOctets-split}
 use Rattle.record_laws.specs.RecordLaws.{ScannedIsIpseckey}
 use Rattle.record_laws.proofs.Octets.{above}
 use Rattle.record_laws.proofs.Scanned.{first_done, one_done, read_some, test_done, number_done, encoded_done, same_done}

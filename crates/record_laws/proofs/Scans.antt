@@ -1,6 +1,6 @@
 -- What scanning answers behind tokens that are known. Offered to the crates above: `one_taken` and
 -- `rest_taken`.
-use Rattle.std.proofs.Common.{◌≡◌, ℕ, ◌+◌, ◌≤◌, Bool, false, cond, List, [], ◌∷◌, ◌++◌, length, Option, Some, None, Result, Ok, Err, refl, ap, ◌∙◌, arith}
+use Rattle.std.proofs.Common.{◌≡◌, ℕ, ◌+◌, ◌≤◌, Bool, false, cond, List, [], ◌∷◌, ◌++◌, length, Option, Some, None, Result, Ok, Err, refl, sym, ap, ◌∙◌, arith, length-append}
 use Rattle.std.proofs.Math.Seq.{drop-append_seam}
 use Rattle.std.proofs.lemmas.Bool.Decides.{nat_tests}
 use Rattle.std.specs.Prelude.{slice_get, nat_lt}
@@ -8,7 +8,7 @@ use Rattle.std.specs.List.{flat_map}
 use Rattle.text_spec.specs.declared.errors.ScanError.{ScanError}
 use Rattle.text_spec.specs.declared.errors.ScanError.TheVariants.{EndOfEntry}
 use Rattle.text_spec.specs.declared.lexeme.Symbol.{Symbol}
-use Rattle.text_spec.specs.Scanning.{octets_of, done, refused, at_token, one, rest_by}
+use Rattle.text_spec.specs.Scanning.{octets_of, done, refused, at_token, one, rest_by, is_marked}
 
 pub assoc : {A : Type 0} (a b c : List A) → (a ++ b) ++ c ≡ a ++ (b ++ c)
 assoc [] b c = refl
@@ -19,6 +19,21 @@ token_at : (front behind : List (List Symbol)) (token : List Symbol)
     → slice_get (front ++ token ∷ behind) (length front) ≡ Some token
 token_at [] behind token = refl
 token_at (first ∷ front) behind token = token_at front behind token
+
+-- a token that is taken is the last of the front
+pub moved_on : (front behind : List (List Symbol)) (token : List Symbol)
+    → front ++ token ∷ behind ≡ (front ++ token ∷ []) ++ behind
+moved_on front behind token = sym (assoc front (token ∷ []) behind)
+
+pub place_on : (front : List (List Symbol)) (token : List Symbol)
+    → length front + 1 ≡ length (front ++ token ∷ [])
+place_on front token = sym (length-append front (token ∷ []))
+
+-- whether the marker stands behind a front
+pub marked_behind : (front tokens : List (List Symbol))
+    → is_marked (front ++ tokens) (length front) ≡ is_marked tokens 0
+marked_behind [] tokens = refl
+marked_behind (first ∷ front) tokens = marked_behind front tokens
 
 module _ {V : Type 0} where
   -- a token that means something is taken

@@ -1,6 +1,6 @@
 -- The tokens of numbers and of a last field, which the texts of data are made of. Offered to the
 -- crates above, with `text_of`, which makes the law of a text of its tokens.
-use Rattle.std.proofs.Common.{◌≡◌, ℕ, ◌+◌, ◌^◌, ◌<◌, ◌≤◌, List, [], ◌∷◌, ◌++◌, length, map, Option, Some, None, Ok, refl, sym, ap, ap₂, ◌∙◌, subst, append-nil, length-append, arith}
+use Rattle.std.proofs.Common.{◌≡◌, ℕ, ◌+◌, ◌^◌, ◌<◌, ◌≤◌, List, [], ◌∷◌, ◌++◌, length, map, Option, Some, None, Ok, refl, sym, ap, ap₂, ◌∙◌, subst, append-nil, length-append, zero-add, arith}
 use Rattle.std.specs.Prelude.{codes}
 use Rattle.std.specs.List.{flat_map}
 use Rattle.std.specs.Fmt.{decimal}
@@ -20,7 +20,7 @@ use Rattle.text_spec.specs.Rows.{number_below}
 use Rattle.record_spec.specs.Rows.{Field, AreNumbers}
 use Rattle.record_spec.specs.Texts.{numbers_then, numbers_printed}
 use Rattle.record_spec.specs.Documents.{number_with_comment, numbers_items}
-use Rattle.record_laws.specs.RecordLaws.{AreSmall, IsScannedAs}
+use Rattle.record_laws.specs.RecordLaws.{AreSmall, AreScannedAs, IsScannedAs}
 use Rattle.record_laws.proofs.Scans.{assoc, one_taken}
 
 -- ---- the token of a number
@@ -206,12 +206,16 @@ last_front (c ∷ text) plain = (text_is c text plain, tt)
 
 pub text_of : {V : Type 0} (scanning : Scanning V) (text : List ℕ) (found : V)
     (tokens : List (List Symbol)) → HasTokens text tokens
-    → scanning tokens 0 ≡ done found (length tokens) → IsScannedAs scanning text found
+    → AreScannedAs scanning tokens found → IsScannedAs scanning text found
 text_of scanning text found tokens has scanned =
+    let same : (others : List (List Symbol)) → HasTokens text others → tokens ≡ others =
+    λ others have. sym (has_tokens text tokens has).1 ∙ (has_tokens text others have).1 in
     record {
       has = (tokens, has);
       scanned = λ others have.
-          let same : tokens ≡ others =
-          sym (has_tokens text tokens has).1 ∙ (has_tokens text others have).1 in
-          subst (λ (ts : List (List Symbol)). scanning ts 0 ≡ done found (length ts)) same scanned;
+          subst (λ (ts : List (List Symbol)). scanning ts 0 ≡ done found (length ts))
+          (same others have) (scanned [] ∙ ap (done found) (zero-add (length tokens)));
+      behind = λ others have.
+          subst (λ (ts : List (List Symbol)). AreScannedAs scanning ts found) (same others have)
+          scanned;
     }

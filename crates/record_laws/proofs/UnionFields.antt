@@ -1,6 +1,6 @@
 -- What the text of fields is scanned as under the number of its type. Data that begins with a
 -- number doesn't begin with the marker.
-use Rattle.std.proofs.Common.{◌≡◌, ℕ, ◌^◌, true, false, cond, List, [], ◌∷◌, length, Ok, Err, refl, sym, inl, inr, ap, ◌∙◌, arith}
+use Rattle.std.proofs.Common.{◌≡◌, ℕ, ◌+◌, ◌^◌, true, false, cond, List, [], ◌∷◌, ◌++◌, length, Ok, Err, refl, sym, inl, inr, ap, ◌∙◌, arith, length-append}
 use Rattle.std.proofs.lemmas.Bool.{cases_eq}
 use Rattle.std.proofs.lemmas.Bool.Decides.{nat_tests}
 use Rattle.std.specs.Prelude.{nat_lt}
@@ -14,11 +14,13 @@ use Rattle.text_spec.specs.Scanning.{Scanned, Scanning, scan_then, at_token, don
 use Rattle.text_spec.specs.Rows.{number_below, unknown_data}
 use Rattle.record_spec.specs.Rows.{Field}
 use Rattle.record_spec.specs.Texts.{numbers_then}
-use Rattle.record_laws.specs.RecordLaws.{IsScannedAs}
+use Rattle.record_laws.specs.RecordLaws.{AreScannedAs, IsScannedAs}
+use Rattle.record_laws.proofs.Scans.{marked_behind}
+use Rattle.record_laws.proofs.Texts.{text_of}
 use Rattle.record_spec.specs.RecordData.{RecordData}
 use Rattle.record_spec.specs.UnionTexts.{scan_as, octets_under, scan_fields, scan_any, at_end, union_scan}
 
-pub not_below : (n : ℕ) → nat_lt n n ≡ false
+not_below : (n : ℕ) → nat_lt n n ≡ false
 not_below n = grind (arith, nat_tests)
 
 answer_not_both : {V : Type 0} (fault : ScanError) (found : V) → Err fault ≡ Ok found → ⊥
@@ -28,6 +30,16 @@ not_both : {V : Type 0} (fault : ScanError) (place : ℕ) (found : V) (end : ℕ
     → refused fault place ≡ done found end → ⊥
 not_both {V} fault place found end is =
     answer_not_both fault found (ap (λ (scanned : Scanned V). scanned.outcome) is)
+
+-- nothing is left behind all tokens
+pub none_left : (front tokens : List (List Symbol)) (found : RecordData)
+    → at_end found (front ++ tokens) (length front + length tokens)
+    ≡ done found (length front + length tokens)
+none_left front tokens found =
+    let end = length front + length tokens in
+    let none : nat_lt end (length (front ++ tokens)) ≡ false =
+    ap (nat_lt end) (length-append front tokens) ∙ not_below end in
+    ap (λ left. cond left (refused TrailingTokens end) (done found end)) none
 
 -- a number is not spelled by `#`
 pub number_unmarked : {V : Type 0} (bound : ℕ) (next : ℕ → ℕ → Scanned V)
@@ -60,28 +72,30 @@ numbers_unmarked (field ∷ fields) next tokens found end some is =
 
 -- where the type with a number has fields of its own
 module _ {V : Type 0} (rtype : ℕ) (type : V → RecordData) (scanning : Scanning V)
-    (fields : (tokens : List (List Symbol))
-    → scan_fields rtype tokens 0 ≡ scan_as type scanning tokens 0) where
+    (fields : (tokens : List (List Symbol)) (place : ℕ)
+    → scan_fields rtype tokens place ≡ scan_as type scanning tokens place) where
   under_number : (tokens : List (List Symbol)) (found : V) → is_marked tokens 0 ≡ false
-      → scanning tokens 0 ≡ done found (length tokens)
-      → union_scan rtype tokens 0 ≡ done (type found) (length tokens)
-  under_number tokens found unmarked scans =
-      let any : scan_any rtype tokens 0 ≡ done (type found) (length tokens) =
-      ap (λ marked. cond marked (scan_as (octets_under rtype) unknown_data tokens 1)
-      (scan_fields rtype tokens 0)) unmarked
-      ∙ fields tokens
-      ∙ ap (λ (first : Scanned V). scan_then first (λ x after. done (type x) after)) scans in
-      ap (λ (first : Scanned RecordData). scan_then first (λ x end. at_end x tokens end)) any
-      ∙ ap (λ left. cond left (refused TrailingTokens (length tokens))
-      (done (type found) (length tokens))) (not_below (length tokens))
+      → AreScannedAs scanning tokens found → AreScannedAs (union_scan rtype) tokens (type found)
+  under_number tokens found unmarked scans front =
+      let all = front ++ tokens in
+      let place = length front in
+      let any : scan_any rtype all place ≡ done (type found) (place + length tokens) =
+      ap (λ marked. cond marked (scan_as (octets_under rtype) unknown_data all (place + 1))
+      (scan_fields rtype all place)) (marked_behind front tokens ∙ unmarked)
+      ∙ fields all place
+      ∙ ap (λ (first : Scanned V). scan_then first (λ x after. done (type x) after)) (scans front)
+      in
+      ap (λ (first : Scanned RecordData). scan_then first (λ x end. at_end x all end)) any
+      ∙ none_left front tokens (type found)
 
   -- the text of fields, where its tokens don't begin with the marker
   pub text_under : (text : List ℕ) (found : V) → IsScannedAs scanning text found
       → ((tokens : List (List Symbol)) → HasTokens text tokens
       → scanning tokens 0 ≡ done found (length tokens) → is_marked tokens 0 ≡ false)
       → IsScannedAs (union_scan rtype) text (type found)
-  text_under text found is unmarked = record {
-    has = is.has;
-    scanned = λ tokens are. under_number tokens found (unmarked tokens are (is.scanned tokens are))
-        (is.scanned tokens are);
-  }
+  text_under text found is unmarked =
+      let tokens = is.has.0 in
+      let has = is.has.1 in
+      text_of (union_scan rtype) text (type found) tokens has
+      (under_number tokens found (unmarked tokens has (is.scanned tokens has))
+      (is.behind tokens has))

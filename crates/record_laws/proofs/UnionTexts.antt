@@ -33,8 +33,8 @@ use Rattle.record_laws.proofs.UnionFields.{number_unmarked, numbers_unmarked, te
 
 module _ (texts : FieldsTextReadBack) (rtype : ℕ) (type : Data → RecordData) (row : Row)
     (is_row : IsLawfulRow row)
-    (fields : (tokens : List (List Symbol))
-    → scan_fields rtype tokens 0 ≡ scan_as type (scan_data row) tokens 0)
+    (fields : (tokens : List (List Symbol)) (place : ℕ)
+    → scan_fields rtype tokens place ≡ scan_as type (scan_data row) tokens place)
     (numbered : nat_lt 0 (length row.fields) ≡ true) where
   fields_text : (found : Data) → IsAssociationData row found
       → IsScannedAs (union_scan rtype) (fields_printed row found) (type found)
@@ -73,7 +73,7 @@ openpgpkey_text : FieldsTextReadBack → IsLawfulRow openpgpkey → (found : Dat
     → IsAssociationData openpgpkey found
     → IsScannedAs (union_scan 61) (fields_printed openpgpkey found) (Openpgpkey found)
 openpgpkey_text texts is_row found is =
-    text_under 61 Openpgpkey (scan_data openpgpkey) (λ tokens. refl)
+    text_under 61 Openpgpkey (scan_data openpgpkey) (λ tokens place. refl)
     (fields_printed openpgpkey found) found (texts openpgpkey is_row found is)
     (λ tokens has scans. key_unmarked found is tokens has)
 
@@ -97,7 +97,7 @@ ipseckey_text : IpseckeyTextReadBack → (found : ipseckeys.Ipseckey) → IsIpse
     → lacks_key found.algorithm found.key ≡ false
     → IsScannedAs (union_scan 45) (ipseckey_printed found) (Ipseckey found)
 ipseckey_text texts found is has_key =
-    text_under 45 Ipseckey scan_ipseckey (λ tokens. refl) (ipseckey_printed found) found
+    text_under 45 Ipseckey scan_ipseckey (λ tokens place. refl) (ipseckey_printed found) found
     (texts found is has_key)
     (λ tokens has scans. ipseckey_unmarked tokens found (length tokens) scans)
 
@@ -111,6 +111,7 @@ service_text found is =
       has = text.some;
       scanned = λ tokens are. text.scanned tokens are []
           ∙ ap (done found) (zero-add (length tokens));
+      behind = text.scanned;
     }
 
 service_unmarked : (found : Record) (tokens : List (List Symbol))
@@ -124,7 +125,8 @@ service_unmarked found tokens scans =
     tokens found (length tokens) scans
 
 service_under : (rtype : ℕ) (type : Record → RecordData)
-    → ((tokens : List (List Symbol)) → scan_fields rtype tokens 0 ≡ scan_as type svcb_data tokens 0)
+    → ((tokens : List (List Symbol)) (place : ℕ)
+    → scan_fields rtype tokens place ≡ scan_as type svcb_data tokens place)
     → (found : Record) → service.IsRecordOfOctets found
     → IsScannedAs (union_scan rtype) (svcb.svcb_printed found) (type found)
 service_under rtype type fields found is =
@@ -137,20 +139,20 @@ pub union_text_again : FieldsTextReadBack → TypesAreRows → IpseckeyTextReadB
 union_text_again texts types ipseckeys (A address) is = a_text_again address is
 union_text_again texts types ipseckeys (Aaaa address) is = aaaa_text_again address is
 union_text_again texts types ipseckeys (Sshfp found) is =
-    fields_text texts 44 Sshfp sshfp types.sshfp_is (λ tokens. refl) refl found is
+    fields_text texts 44 Sshfp sshfp types.sshfp_is (λ tokens place. refl) refl found is
 union_text_again texts types ipseckeys (Ipseckey found) is = ipseckey_text ipseckeys found is.0 is.1
 union_text_again texts types ipseckeys (Tlsa found) is =
-    fields_text texts 52 Tlsa tlsa types.tlsa_is (λ tokens. refl) refl found is
+    fields_text texts 52 Tlsa tlsa types.tlsa_is (λ tokens place. refl) refl found is
 union_text_again texts types ipseckeys (Cds found) is =
-    fields_text texts 59 Cds cds types.cds_is (λ tokens. refl) refl found is
+    fields_text texts 59 Cds cds types.cds_is (λ tokens place. refl) refl found is
 union_text_again texts types ipseckeys (Cdnskey found) is =
-    fields_text texts 60 Cdnskey cdnskey types.cdnskey_is (λ tokens. refl) refl found is
+    fields_text texts 60 Cdnskey cdnskey types.cdnskey_is (λ tokens place. refl) refl found is
 union_text_again texts types ipseckeys (Openpgpkey found) is =
     openpgpkey_text texts types.openpgpkey_is found is
 union_text_again texts types ipseckeys (Zonemd found) is =
-    fields_text texts 63 Zonemd zonemd types.zonemd_is (λ tokens. refl) refl found is
+    fields_text texts 63 Zonemd zonemd types.zonemd_is (λ tokens place. refl) refl found is
 union_text_again texts types ipseckeys (Svcb found) is =
-    service_under 64 Svcb (λ tokens. refl) found is
+    service_under 64 Svcb (λ tokens place. refl) found is
 union_text_again texts types ipseckeys (Https found) is =
-    service_under 65 Https (λ tokens. refl) found is
+    service_under 65 Https (λ tokens place. refl) found is
 union_text_again texts types ipseckeys (Unknown found) is = unknown_text_again found is.0 is.1

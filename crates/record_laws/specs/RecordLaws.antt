@@ -54,12 +54,20 @@ pub record TypesAreRows : Type 0 where
   pub zonemd_is : IsLawfulRow zonemd
   pub openpgpkey_is : IsLawfulRow openpgpkey
 
--- a text has tokens, and those that it has are scanned as this, all of them taken
+-- behind any tokens, these are scanned as this, and all of them are taken
+abbrev pub AreScannedAs : {V : Type 0} → Scanning V → List (List Symbol) → V → Type 0
+AreScannedAs scanning tokens found = (front : List (List Symbol))
+    → scanning (front ++ tokens) (length front) ≡ done found (length front + length tokens)
+
+-- A text has tokens, and those that it has are scanned as this, all of them taken: by themselves,
+-- and behind any tokens that are taken before, as a zone's reader takes owner, class and type.
 pub record IsScannedAs {V : Type 0} (scanning : Scanning V) (text : List ℕ)
     (found : V) : Type 0 where
   pub has : (tokens : List (List Symbol)) × HasTokens text tokens
   pub scanned : (tokens : List (List Symbol)) → HasTokens text tokens
       → scanning tokens 0 ≡ done found (length tokens)
+  pub behind : (tokens : List (List Symbol)) → HasTokens text tokens
+      → AreScannedAs scanning tokens found
 
 -- what is scanned is data, and all tokens are taken
 abbrev pub ScannedIsData : Type 0
@@ -111,6 +119,10 @@ ScannedIsIpseckey = (tokens : List (List Symbol)) (place end : ℕ) (found : Ips
     → AreOctets (flat_map octets_of tokens)
     → scan_ipseckey tokens place ≡ done found end
     → IsIpseckey found × (lacks_key found.algorithm found.key ≡ false) × (end ≡ length tokens)
+
+-- IPSECKEY data without a missing key
+abbrev pub IsKeyedIpseckey : Ipseckey → Type 0
+IsKeyedIpseckey found = IsIpseckey found × (lacks_key found.algorithm found.key ≡ false)
 
 -- data that is printed is scanned, where no key is missing
 abbrev pub IpseckeyTextReadBack : Type 0

@@ -1,5 +1,5 @@
 -- Laws of the data of records of any type, which the functions of `src/laws.rt` state.
-use Rattle.std.specs.Prelude.{◌≡◌, ◌≤◌, false, length}
+use Rattle.std.specs.Prelude.{◌≡◌, ℕ, ◌≤◌, false, length}
 use Rattle.name_spec.specs.AddressLaws.{AreOctets}
 use Rattle.record_spec.specs.Rows.{IsAssociationData, sshfp, tlsa, cds, cdnskey, openpgpkey, zonemd}
 use Rattle.record_spec.specs.Ipseckeys.{IsAddress, IsIpseckey, lacks_key}
@@ -22,6 +22,15 @@ IsUnionData (Zonemd found) = IsAssociationData zonemd found
 IsUnionData (Svcb found) = service.IsRecordOfOctets found
 IsUnionData (Https found) = service.IsRecordOfOctets found
 IsUnionData (Unknown found) = AreOctets found.octets × (length found.octets ≤ 65535)
+
+-- no IPSECKEY key is missing
+abbrev pub IsKeyed : RecordData → Type 0
+IsKeyed (Ipseckey found) = lacks_key found.algorithm found.key ≡ false
+IsKeyed found = Unit {0}
+
+-- data under the number of its type
+abbrev pub IsDataUnder : ℕ → RecordData → Type 0
+IsDataUnder rtype found = IsUnionData found × (rtype_of found ≡ rtype)
 
 -- The printed text of data has tokens, and those are scanned under the number of its type as that
 -- data. So it is also of octets under the number of a type that has fields.

@@ -1,13 +1,14 @@
 -- What a record's labels and values are made of, where its octets are octets. Offered to the crates
--- above: `octets_parts`, `octets_joined`, `labels_octets`, `values_octets` and `is_data`.
+-- above: `octets_parts`, `octets_joined`, `values_octets`, `map_octets` and `is_data`.
 use Rattle.std.proofs.Common.{ℕ, List, [], ◌∷◌, ◌++◌, length, subst}
 use Rattle.std.specs.List.{flat_map}
 use Rattle.name_spec.specs.Names.{name_wire}
 use Rattle.name_spec.specs.Octets.{be2}
 use Rattle.name_spec.specs.AddressLaws.{AreOctets}
-use Rattle.svcb_spec.specs.Params.{Pairs, pairs_wire, wire}
+use Rattle.svcb_spec.specs.Params.{Pairs, IsMap, pairs_wire, wire}
 use Rattle.svcb_spec.specs.Records.{Record, IsRecord}
 use Rattle.svcb_spec.proofs.WireLaws.{wire-pairs}
+use Rattle.text_spec.proofs.OctetParts.{labels_octets}
 use Rattle.svcb_laws.specs.ParamTextLaws.{HaveOctets}
 use Rattle.svcb_laws.specs.DataTextLaws.{IsRecordOfOctets}
 
@@ -24,13 +25,6 @@ pub octets_joined : (front behind : List ℕ) → AreOctets front → AreOctets 
 octets_joined [] behind are more = more
 octets_joined (c ∷ front) behind are more = (are.0, octets_joined front behind are.1 more)
 
-pub labels_octets : (labels : List (List ℕ)) → AreOctets (name_wire labels)
-    → AreOctets (flat_map (λ label. label) labels)
-labels_octets [] are = tt
-labels_octets (label ∷ labels) are =
-    let parts = octets_parts label (name_wire labels) are.1 in
-    octets_joined label (flat_map (λ l. l) labels) parts.0 (labels_octets labels parts.1)
-
 pub values_octets : (pairs : Pairs) → AreOctets (pairs_wire pairs) → HaveOctets pairs
 values_octets [] are = tt
 values_octets (pair ∷ pairs) are =
@@ -41,12 +35,15 @@ values_octets (pair ∷ pairs) are =
           parts.1,
     )
 
+-- so the values of a map are made of octets where its octets are
+pub map_octets : (pairs : Pairs) → IsMap pairs → AreOctets (wire pairs) → HaveOctets pairs
+map_octets pairs is are = values_octets pairs (subst AreOctets (wire-pairs pairs is) are)
+
 -- a record whose octets are octets
 pub is_data : (found : Record) → IsRecord found → AreOctets (name_wire found.labels)
     → AreOctets (wire found.pairs) → IsRecordOfOctets found
 is_data found is target parameters = record {
   is_record = is;
   labels = labels_octets found.labels target;
-  values = values_octets found.pairs
-      (subst AreOctets (wire-pairs found.pairs is.is_map) parameters);
+  values = map_octets found.pairs is.is_map parameters;
 }

@@ -17,6 +17,7 @@ pub mod Tallies
 pub mod TokenOrders
 pub mod Lines
 pub mod DataTokens
+pub mod AscendingKeys
 pub mod DataOctets
 pub mod DataTexts
 pub mod ReadOctets

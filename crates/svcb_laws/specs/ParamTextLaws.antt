@@ -15,7 +15,7 @@ use Rattle.svcb_spec.specs.ListTexts.{◌>>=◌, comma_items, escaped_item}
 use Rattle.svcb_spec.specs.ValueTexts.{protocol_item, protocols_step, protocols_of, in_ascending_order, value_of_text}
 use Rattle.svcb_spec.specs.ParamTexts.{spells, params}
 use Rattle.svcb_spec.specs.PrintedValues.{value_printed, opaque_text}
-use Rattle.svcb_spec.specs.PrintedParams.{are_distinct, has_own_text, pair_printed, pair_texts, params_printed}
+use Rattle.svcb_spec.specs.PrintedParams.{are_distinct, ascends_above, has_own_text, pair_printed, pair_texts, params_printed}
 
 -- the text is wholly that of a token whose octets spell the value
 abbrev pub IsValueText : List ℕ → Value → Type 0
@@ -116,6 +116,16 @@ MandatoryExact = (text : List ℕ) (value : Value) → (value_of_text 0 text ≡
     ↔ ((keys : List ℕ) × IsListOf (spelled_key parameter_keys) text keys
     × Each (λ key. 0 < key) keys × (are_distinct keys ≡ true)
     × IsShort (Mandatory (in_ascending_order keys)) value)
+
+-- the keys of `others` ascend above 0, and are those of `keys`
+pub record AreAscending (keys others : List ℕ) : Type 0 where
+  pub same : IsPermutation keys others
+  pub ascend : ascends_above 0 others ≡ true
+
+-- distinct keys other than 0 in ascending order are the same keys, each above the one before it
+abbrev pub AscendingKeys : Type 0
+AscendingKeys = (keys : List ℕ) → Each (λ key. 0 < key) keys → are_distinct keys ≡ true
+    → AreAscending keys (in_ascending_order keys)
 
 -- a text spells addresses under a key exactly where its items do
 abbrev pub HintExact : ℕ → (List ℕ → Option (List ℕ)) → (List (List ℕ) → Value) → Type 0

@@ -34,7 +34,7 @@ pub fn any_token_order()
 {}
 
 // Lists, whole.
-ghost use Rattle.svcb_laws.specs.ParamTextLaws.{CommaItemsExact, MandatoryExact, HintsExact, GroupsExact};
+ghost use Rattle.svcb_laws.specs.ParamTextLaws.{CommaItemsExact, MandatoryExact, AscendingKeys, HintsExact, GroupsExact};
 
 /// A text has exactly the items without commas that are the text with commas between them; no octets have none.
 pub fn comma_items_exact()
@@ -44,6 +44,11 @@ pub fn comma_items_exact()
 /// A text spells exactly the mandatory keys, distinct and not 0, that its items spell, in ascending order.
 pub fn mandatory_exact()
     ensures { MandatoryExact }
+{}
+
+/// The keys that [`mandatory_exact`] puts in ascending order are the same keys, each above the one before it.
+pub fn ascending_keys()
+    ensures { AscendingKeys }
 {}
 
 /// A text spells exactly the addresses of a hint that its items spell.

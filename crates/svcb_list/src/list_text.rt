@@ -1,9 +1,10 @@
 //! Lists of items as text (RFC 9460, appendix A.1).
 
-ghost use Rattle.std.specs.Prelude.{◌≡◌, ℕ, [], ◌∷◌, Some};
+ghost use Rattle.std.specs.Prelude.{◌≡◌, ℕ, Some, not};
+ghost use Rattle.std.specs.List.{prefix_len};
 ghost use Rattle.std.specs.Fmt.{WritesOnOk};
 ghost use Rattle.name_spec.specs.Printed.{printed_octets};
-ghost use Rattle.svcb_spec.specs.ListTexts.{escaped_item};
+ghost use Rattle.svcb_spec.specs.ListTexts.{escaped_item, is_escaped_in_item};
 ghost use Rattle.svcb_spec.specs.PrintedValues.{value_printed};
 
 use crate::item_list::ItemListRef;
@@ -36,25 +37,23 @@ pub(crate) fn write_escaped<W: fmt::Write>(item: &[u8], f: &mut fmt::Formatter<W
     ensures { WritesOnOk W.Write.write_str_gives f.old result
         (printed_octets (escaped_item item.now)) f.new }
 {
-    for octet in item {
-        write!(f, "{}", EscapedOctet(*octet))?;
+    let mut rest = item;
+    loop {
+        let (plain, behind) = rest.split_at(plain_len(rest));
+        write!(f, "{}", PrintedOctets::new(plain))?;
+        let Some((first, behind)) = behind.split_first() else {
+            return Ok(());
+        };
+        write!(f, "{}", PrintedOctets::new(&[b'\\', *first]))?;
+        rest = behind;
     }
-    Ok(())
 }
 
-/// An octet of an item.
-#[derive(Clone, Copy)]
-struct EscapedOctet(u8);
-
-impl fmt::Display for EscapedOctet {
-    ghost output = { λ escaped. Some (printed_octets (escaped_item (escaped.0 ∷ []))) };
-
-    fn fmt<W: fmt::Write>(&self, f: &mut fmt::Formatter<W>) -> fmt::Result {
-        let octet = self.0;
-        if octet == b',' || octet == b'\\' {
-            write!(f, "{}", PrintedOctets::new(&[b'\\', octet]))
-        } else {
-            write!(f, "{}", PrintedOctets::new(&[octet]))
-        }
-    }
+/// How many octets stand before a comma or a backslash.
+fn plain_len(item: &[u8]) -> usize
+    ensures { result ≡ prefix_len (λ c. not (is_escaped_in_item c)) item.now }
+{
+    item.iter()
+        .take_while(|octet| **octet != b',' && **octet != b'\\')
+        .count()
 }

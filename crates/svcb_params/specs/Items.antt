@@ -6,8 +6,8 @@ use Rattle.svcb_spec.specs.Params.{Pairs, value_at}
 use Rattle.svcb_spec.specs.Values as values
 use Rattle.name_spec.specs.Taking.{Taken}
 use Rattle.svcb_spec.specs.ReadingValues.{take_value, whole_taken}
+use Rattle.wire_base.specs.Faults.{error_of}
 use Rattle.wire_base.specs.declared.errors.ParseError.{ParseError}
-use Rattle.svcb_text.specs.WholeValues.{error_of}
 
 -- a value in front of the items that follow it; nothing follows a fault
 abbrev pub with_item : {Seen : Type 0} → Result Seen Fault → List (Result Seen ParseError)
@@ -71,9 +71,3 @@ pub record IsFirst {V Seen : Type 0} (seen : V → Seen) (takes : ℕ → Bool)
 -- all pairs in order, whatever their types
 abbrev pub raw_values : Pairs → List values.Value
 raw_values = map (λ pair. values.Unknown pair.0 pair.1)
-
--- an item, as contracts see it
-abbrev pub value_item : {V Seen : Type 0} → (V → Seen) → Result V ParseError
-    → Result Seen ParseError
-value_item seen (Ok value) = Ok (seen value)
-value_item seen (Err error) = Err error

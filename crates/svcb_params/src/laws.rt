@@ -1,6 +1,11 @@
 //! Laws of service parameters, each proved for all arguments. The functions do nothing when they run.
 
+ghost use Rattle.svcb_spec.specs.Params.{IsMap};
+ghost use Rattle.svcb_laws.specs.ParamTextLaws.{HaveOctets};
 ghost use Rattle.svcb_params.specs.Laws.{ParametersAreLists, EqualByOctets, PairsAreFew, FirstUnderKey, PushedRead, AllReadThrough};
+
+use crate::params::SvcParams;
+use text_spec::laws::slice_of_octets;
 
 /// Octets are service parameters exactly where they are a list of keys, lengths and that many octets of value, and the
 /// keys ascend strictly.
@@ -12,6 +17,15 @@ pub fn parameters_are_lists()
 pub fn equal_by_octets()
     ensures { EqualByOctets }
 {}
+
+/// The values of parameters are made of octets, which the laws of `svcb_laws` on printed texts ask of them.
+#[tactic(auto, using(svcb_laws::proofs::DataOctets::map_octets))]
+pub fn params_of_octets(params: &SvcParams)
+    ensures is_map { IsMap params.now }
+    ensures octets { HaveOctets params.now }
+{
+    slice_of_octets(params.as_slice());
+}
 
 /// Each parameter has at least four octets, so an iterator over `len` octets gives at most `len / 4` items.
 pub fn pairs_are_few()

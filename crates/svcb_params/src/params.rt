@@ -1,13 +1,13 @@
 //! Owned service parameters.
 
-ghost use Rattle.std.specs.Prelude.{◌≡◌, ◌==◌, None, [], Ok, length, option_map, MatchResult, IfOk};
+ghost use Rattle.std.specs.Prelude.{◌≡◌, ◌==◌, None, [], Ok, length, MatchResult, IfOk};
 ghost use Rattle.svcb_spec.specs.Params.{pairs_at, wire, IsMap};
 ghost use Rattle.wire_base.specs.Faults.{IsFaultOf, GivesCopy};
 ghost use Rattle.wire_base.specs.Input.{octets_left};
 ghost use Rattle.wire_base.specs.Moving.{TakesAll, AppendsOctets};
 ghost use Rattle.svcb_pairs.specs.Parameters.{read_pairs, pairs_in, IsParameters};
 ghost use Rattle.svcb_params.specs.ParamsView.{seen_params};
-ghost use Rattle.svcb_params.specs.Items.{items, first_value};
+ghost use Rattle.svcb_params.specs.Items.{IsFirst};
 
 use crate::params_error::SvcParamsError;
 use crate::params_ref::SvcParamsRef;
@@ -177,9 +177,10 @@ impl SvcParams {
         ValueIter::new(self.for_slice())
     }
 
-    /// The first item of `iter`. None where there is none, or it is an error. Takes no memory.
+    /// The first item of `iter`. None where there is none, or it is an error. Takes no memory. Of a type that takes
+    /// one key it is the value under that key, whatever other keys hold.
     pub fn first<'s, V: ParseSvcParamValue<'s>>(&'s self) -> Option<V>
-        ensures { option_map V.seen result ≡ first_value (items V.takes V.reads self.now) }
+        ensures { IsFirst V.seen V.takes V.reads self.now result }
     {
         first_of(self.for_slice())
     }

@@ -43,7 +43,7 @@ impl<'a> SvcParamsRef<'a> {
     ghost use Rattle.wire_base.specs.Moving.{TakesAll, AppendsOctets};
     ghost use Rattle.svcb_pairs.specs.Parameters.{read_pairs, IsFirstPair};
     ghost use Rattle.svcb_params.specs.ParamsView.{seen_params};
-    ghost use Rattle.svcb_params.specs.Items.{items, first_value};
+    ghost use Rattle.svcb_params.specs.Items.{IsFirst};
 
     /// A view of the parameters that octets are; any count of octets is allowed. Takes no memory.
     ///
@@ -137,10 +137,10 @@ impl<'a> SvcParamsRef<'a> {
         ValueIter::new(*self)
     }
 
-    /// The first item of `iter`. None where there is none, or it is an error. Takes no memory.
+    /// The first item of `iter`. None where there is none, or it is an error. Takes no memory. Of a type that takes
+    /// one key it is the value under that key, whatever other keys hold.
     pub fn first<'s, V: ParseSvcParamValue<'s>>(&'s self) -> Option<V>
-        ensures { option_map V.seen result
-            ≡ first_value (items V.takes V.reads (seen_params self.now)) }
+        ensures { IsFirst V.seen V.takes V.reads (seen_params self.now) result }
     {
         first_of(*self)
     }

@@ -2,8 +2,9 @@
 
 ghost use Rattle.std.specs.Prelude.{◌≡◌};
 ghost use Rattle.std.specs.Iterator.{YieldsFirstBy, item_count};
+ghost use Rattle.wire_base.specs.Faults.{value_item};
 ghost use Rattle.svcb_params.specs.ParamsView.{seen_params};
-ghost use Rattle.svcb_params.specs.Items.{items, IsFirst, value_item};
+ghost use Rattle.svcb_params.specs.Items.{items, IsFirst};
 
 use crate::params_ref::SvcParamsRef;
 use registry::{ParseSvcParamValue, SvcParamKey};

@@ -2,7 +2,6 @@
 //! `svcb_spec::laws`.
 
 ghost use Rattle.std.specs.Prelude.{◌≡◌, Ok, length};
-ghost use Rattle.name_spec.specs.AddressLaws.{AreOctets};
 ghost use Rattle.svcb_spec.specs.Records.{read};
 ghost use Rattle.wire_base.specs.Faults.{Gives};
 ghost use Rattle.svcb_rdata.specs.Reading.{record_pairs};
@@ -12,6 +11,8 @@ ghost use Rattle.svcb_laws.specs.DataTextLaws.{IsRecordOfOctets};
 use crate::rdata::SvcbRdata;
 use crate::rebuild::read_record;
 use svcb_params::RawIter;
+pub use svcb_spec::laws::truncation;
+use text_spec::laws::slice_of_octets;
 use wire_base::ParseError;
 
 /// A typed value that was accepted is what its type reads from the final map, as the getters of `SvcParams` and its
@@ -27,14 +28,9 @@ pub fn made_of_octets<V>(found: &SvcbRdata<V>)
 {
     let _priority = found.priority();
     let _len = found.len();
-    are_octets(found.target().as_slice());
-    are_octets(found.params().as_slice());
+    slice_of_octets(found.target().as_slice());
+    slice_of_octets(found.params().as_slice());
 }
-
-/// Octets are numbers below 256.
-fn are_octets(octets: &[u8])
-    ensures { AreOctets octets.now }
-{}
 
 /// All parameters of octets that are record data as a whole, by ascending keys: of data that was rebuilt each pair of
 /// the final map once.

@@ -79,16 +79,12 @@ impl<'a, V> SvcbRef<'a, V> {
     }
 
     /// The record data in all octets before the end of the data. The parser stays.
-    pub(crate) fn peek(parser: &mut Parser<'a>) -> Result<SvcbRef<'a, V>, ParseError>
-        ensures answer { Gives record_of result (next_record parser.old) }
+    pub(crate) fn peek(parser: &Parser<'a>) -> Result<SvcbRef<'a, V>, ParseError>
+        ensures answer { Gives record_of result (next_record parser.now) }
         ensures pointed { IfOk result
-            (λ found. found.target.is_compressed ≡ is_target_pointed parser.old) }
-        ensures stays { parser.new ≡ parser.old }
+            (λ found. found.target.is_compressed ≡ is_target_pointed parser.now) }
     {
-        let start = parser.pos();
-        let found = SvcbRef::read(parser);
-        parser.seek(start)?;
-        found
+        SvcbRef::read(&mut parser.fork())
     }
 
     /// Reads the record data in all octets before the end of the data (RFC 9460, section 2.2). Takes no memory, so

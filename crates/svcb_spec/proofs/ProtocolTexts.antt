@@ -3,14 +3,10 @@ use Rattle.std.proofs.Common.{◌≡◌, ℕ, zero, suc, ◌<◌, ◌≤◌, Lis
 use Rattle.std.specs.Prelude.{◌==◌, nat_lt}
 use Rattle.text_spec.specs.declared.errors.ScanError.{ScanError}
 use Rattle.text_spec.specs.declared.errors.ScanError.TheVariants.{BadListEscape, EmptyItem, LongItem}
-use Rattle.svcb_spec.specs.ListTexts.{◌>>=◌, ItemRead, read_item, onto_item, some_octets, is_escaped_in_item}
+use Rattle.svcb_spec.specs.ListTexts.{◌>>=◌, ItemRead, left_len, read_item, onto_item, some_octets, is_escaped_in_item}
 use Rattle.svcb_spec.specs.ValueTexts.{short_item, protocol_item, protocols_step, protocols_within, protocols_of}
 
 -- ---- what is left behind an item is shorter
-
-abbrev pub left_len : Option (List ℕ) → ℕ
-left_len None = 0
-left_len (Some text) = suc (length text)
 
 abbrev pub IsShorter : Result ItemRead ScanError → ℕ → Type 0
 IsShorter (Ok read) n = left_len read.rest ≤ n

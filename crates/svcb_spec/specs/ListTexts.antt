@@ -1,5 +1,5 @@
 -- Lists in the text of a value (RFC 9460, appendix A.1): items with commas between them.
-use Rattle.std.specs.Prelude.{ℕ, ◌==◌, Bool, ◌||◌, if◌then◌else◌, List, [], ◌∷◌, ◌++◌, length, Option, Some, None, Result, Ok, Err}
+use Rattle.std.specs.Prelude.{ℕ, suc, ◌==◌, Bool, ◌||◌, if◌then◌else◌, List, [], ◌∷◌, ◌++◌, length, Option, Some, None, Result, Ok, Err}
 use Rattle.std.specs.List.{list_any, flat_map}
 use Rattle.text_spec.specs.declared.errors.ScanError.{ScanError}
 use Rattle.text_spec.specs.declared.errors.ScanError.TheVariants.{BadListEscape, EmptyItem}
@@ -71,6 +71,11 @@ read_item (c ∷ next ∷ text) =
     then (if is_escaped_in_item next then onto_item next (read_item text)
     else Err BadListEscape)
     else onto_item c (read_item (next ∷ text))
+
+-- how much is left of a list's text: one for the item that follows, and its octets
+abbrev pub left_len : Option (List ℕ) → ℕ
+left_len None = 0
+left_len (Some text) = suc (length text)
 
 -- an item has at least one octet
 abbrev pub some_octets : ItemRead → Result ItemRead ScanError

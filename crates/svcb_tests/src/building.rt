@@ -90,7 +90,7 @@ fn values_are_pushed(rt: HostRuntime) {
 }
 
 /// A value under each key that has a type.
-const ALL_TYPES: &[u8] = b"\x00\x00\x00\x02\x00\x01\
+pub(crate) const ALL_TYPES: &[u8] = b"\x00\x00\x00\x02\x00\x01\
     \x00\x01\x00\x03\x02h2\
     \x00\x02\x00\x00\
     \x00\x03\x00\x02\x00\x35\

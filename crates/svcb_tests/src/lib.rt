@@ -34,4 +34,6 @@ mod record_orders;
 #[cfg(test)]
 mod records;
 #[cfg(test)]
+mod refused_memory;
+#[cfg(test)]
 mod targets;

@@ -11,9 +11,9 @@ use Rattle.svcb_list.specs.declared.errors.BuildAlpnError.TheVariants as push_er
 use Rattle.text_spec.specs.declared.errors.ScanError.{ScanError}
 use Rattle.text_spec.specs.declared.errors.ScanError.TheVariants.{EmptyItem, LongItem}
 use Rattle.text_spec.specs.Scanning.{Answers}
-use Rattle.svcb_spec.specs.ListTexts.{◌>>=◌, ItemRead, read_item, some_octets}
+use Rattle.svcb_spec.specs.ListTexts.{◌>>=◌, ItemRead, left_len, read_item, some_octets}
 use Rattle.svcb_spec.specs.ValueTexts.{short_value, short_item, protocols_step, protocols_of}
-use Rattle.svcb_spec.proofs.ProtocolTexts.{left_len, IsShorter, read_item-shorter, some_octets-shorter, onto_rest, protocols_of-step}
+use Rattle.svcb_spec.proofs.ProtocolTexts.{IsShorter, read_item-shorter, some_octets-shorter, onto_rest, protocols_of-step}
 use Rattle.svcb_text.specs.ValueFaults.{protocol_fault}
 use Rattle.svcb_text.proofs.ValueLemmas.{short_value-long}
 use Rattle.svcb_text.proofs.AnswerLemmas.{refused_before, refused_first}
@@ -248,3 +248,12 @@ push_answers push_errors.LongSvcParam old len value is refused over =
     short_value-long value (over refused.1)
 push_answers push_errors.ShortBuf old len value is refused over = absurd refused
 push_answers push_errors.NoMemory old len value is refused over = tt
+
+-- less is left behind an item
+pub less_left : (text : List ℕ) (found : ItemRead) → read_item text ≡ Ok found
+    → left_len found.rest < suc (length text)
+less_left text found is =
+    let less : left_len found.rest ≤ length text =
+    subst (λ (r : Result ItemRead ScanError). IsShorter r (length text)) is
+    (read_item-shorter text) in
+    omega arith

@@ -1,13 +1,8 @@
 -- Octets that are to be wholly a value.
 use Rattle.std.specs.Prelude.{Bool, true, false, Option, None, Some, Result, Ok, Err}
-use Rattle.name_spec.specs.Octets.{Fault, Short, Form}
+use Rattle.name_spec.specs.Octets.{Fault}
+use Rattle.wire_base.specs.Faults.{error_of}
 use Rattle.wire_base.specs.declared.errors.ParseError.{ParseError}
-use Rattle.wire_base.specs.declared.errors.ParseError.TheVariants as errors
-
--- the error that answers a fault
-abbrev pub error_of : Fault → ParseError
-error_of Short = errors.ShortInput
-error_of Form = errors.Form
 
 -- what the octets under a key wholly are; nothing where the key isn't taken
 abbrev pub read_wholly : {Seen : Type 0} → Bool → Result Seen Fault

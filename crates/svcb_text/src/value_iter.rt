@@ -1,7 +1,7 @@
 //! The items in the text of a value, one after another.
 
-ghost use Rattle.std.specs.Prelude.{◌≡◌, option_map, OnOk, OnErr};
-ghost use Rattle.svcb_spec.specs.ListTexts.{comma_items};
+ghost use Rattle.std.specs.Prelude.{◌≡◌, ◌<◌, option_map, IsSome, IfOk, OnOk, OnErr};
+ghost use Rattle.svcb_spec.specs.ListTexts.{comma_items, left_len};
 ghost use Rattle.text_spec.specs.Scanning.{Answers};
 ghost use Rattle.svcb_text.specs.Items.{text_of_list, items_left, next_plain, other_items, next_read, item_read, text_behind, seen_item};
 
@@ -60,10 +60,13 @@ impl<'a> SvcParamValueScanIter<'a> {
     ///
     /// `BadListEscape`: a backslash is followed by neither a comma nor a backslash. `EmptyItem`: the item has no
     /// octets. `NoMemory`: allocation failed. The item is then still the next.
+    ///
+    /// Less is left behind each item, so a loop over the items ends.
     pub fn next_item(&mut self, alloc: Global) -> Result<Option<Octets>, ScanError>
         ensures item { Answers (λ item. item) result (item_read (next_read self.old)) }
         ensures ok { OnOk result (self.new ≡ text_behind (next_read self.old)) }
         ensures err { OnErr result (self.new ≡ self.old) }
+        ensures ends { IfOk result (λ item. IsSome item → left_len self.new < left_len self.old) }
     {
         let Some(text) = self.left else {
             return Ok(None);

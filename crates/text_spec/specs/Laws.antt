@@ -1,11 +1,12 @@
 -- Laws of the texts of entries, which the functions of `src/laws.rt` state.
-use Rattle.std.specs.Prelude.{◌≡◌, ℕ, ◌<◌, ◌^◌, ◌↔◌, IsTrue, List, ◌∷◌, length, Some, None}
+use Rattle.std.specs.Prelude.{◌≡◌, ℕ, ◌<◌, ◌^◌, ◌↔◌, IsTrue, List, [], ◌∷◌, ◌++◌, length, Some, None}
 use Rattle.std.specs.Fmt.{decimal}
 use Rattle.std.specs.List.{flat_map, AllByRecursion}
 use Rattle.name_spec.specs.Names.{AreLabels}
 use Rattle.name_spec.specs.Printed.{printed_octets, printed_name_with_dot}
 use Rattle.name_spec.specs.Addresses.{ipv4_text, ipv6_text}
 use Rattle.name_spec.specs.AddressLaws.{AreOctets}
+use Rattle.registry.specs.Texts.{spelled_number}
 use Rattle.text_spec.specs.declared.errors.ScanError.{ScanError}
 use Rattle.text_spec.specs.declared.lexeme.Symbol.{Symbol}
 use Rattle.text_spec.specs.declared.display_kind.DisplayKind.{DisplayKind}
@@ -27,6 +28,17 @@ abbrev pub FaultRead : Type 0
 FaultRead = (text : List ℕ) (fault : ScanError) → HasFault 0 text fault
     ↔ (text_fault text ≡ Some fault)
 
+-- a text that is wholly a token's is an entry of that token alone
+abbrev pub TokenIsEntry : Type 0
+TokenIsEntry = (text : List ℕ) (token : List Symbol) → IsTokenText text token
+    → HasTokens text (token ∷ [])
+
+-- a token's text, a space and an entry have that token in front of those of the entry
+abbrev pub TokenInFront : Type 0
+TokenInFront = (text rest : List ℕ) (token : List Symbol) (tokens : List (List Symbol))
+    → IsTokenText text token → HasTokens rest tokens
+    → HasTokens (text ++ 32 ∷ rest) (token ∷ tokens)
+
 -- the printed text of octets, at least one, is wholly the text of a token of these octets
 abbrev pub OctetsReadBack : Type 0
 OctetsReadBack = (octet : ℕ) (octets : List ℕ) → AreOctets (octet ∷ octets)
@@ -45,6 +57,11 @@ abbrev pub Base64Exact : Type 0
 Base64Exact = (text octets : List ℕ) → AreOctets text
     → (base64_of text ≡ Some octets) ↔ (AreOctets octets × (text ≡ base64_text octets))
 
+-- The tokens of a text of octets are of octets, as what is joined for `base64_of` is.
+abbrev pub TokensOfOctets : Type 0
+TokensOfOctets = (text : List ℕ) (tokens : List (List Symbol)) → AreOctets text
+    → HasTokens text tokens → AreOctets (flat_map octets_of tokens)
+
 -- octets are read back from their base16 text
 abbrev pub Base16ReadBack : Type 0
 Base16ReadBack = (octets : List ℕ) → AreOctets octets → base16_of (base16_text octets) ≡ Some octets
@@ -61,6 +78,11 @@ PlainReadBack = (text : List ℕ) → 0 < length text → AllByRecursion (λ c. 
 -- and so is the decimal text of a number
 abbrev pub DecimalReadBack : Type 0
 DecimalReadBack = (n : ℕ) → n < 2 ^ 64 → IsOwnToken (decimal n)
+
+-- which is read as that number, wherever it is below the bound
+abbrev pub DecimalIsNumber : Type 0
+DecimalIsNumber = (bound n : ℕ) → n < bound → n < 2 ^ 64
+    → spelled_number bound (decimal n) ≡ Some n
 
 -- and the base16 text of octets, at least one
 abbrev pub Base16TokenText : Type 0

@@ -8,7 +8,9 @@ pub mod Lexing
 pub mod NameTexts
 pub mod NumberLaws
 pub mod Pieces
+pub mod ReadingBack
 pub mod Rows
 pub mod Scanning
+pub mod ScanningLaws
 pub mod Tokens
 pub mod Words

@@ -1,10 +1,13 @@
 -- Octets that are wholly a name.
-use Rattle.std.proofs.Common.{◌≡◌, ℕ, ◌<◌, ◌≤◌, ◌==◌, if◌then◌else◌, Bool, true, false, List, [], ◌∷◌, length, Result, Ok, Err, IsOk, refl, sym, ap, ◌∙◌, arith, length-append}
+use Rattle.std.proofs.Common.{◌≡◌, ℕ, ◌+◌, ◌<◌, ◌≤◌, ◌==◌, if◌then◌else◌, Bool, true, false, List, [], ◌∷◌, length, Result, Ok, Err, IsOk, refl, sym, ap, ◌∙◌, arith, length-append}
 use Rattle.std.proofs.lemmas.Bool.Decides.{nat_tests}
 use Rattle.name_spec.specs.Octets.{Fault, Form, ◌>>=◌}
 use Rattle.name_spec.specs.Names.{NameRead, name_at, name_wire, is_pointed, AreLabels}
 use Rattle.name_spec.specs.OwnedNames.{labels_to, name_in}
 use Rattle.name_spec.proofs.OwnedNameLaws.{name_in-read, name_in-labels, name_in-wire, name_in-name_wire, name_in-plain, name_in-pointed, length-name_wire, length-labels, AreLabels-read}
+use Rattle.name_spec.proofs.NameLengths.{name_len}
+use Rattle.wire_base.specs.NameParts.{SpansName}
+use Rattle.wire_base.specs.declared.name_parts.Span.{Span}
 use Rattle.wire_base.specs.NameView.{IsPlace, IsName, labels_of}
 use Rattle.wire_base.specs.OwnedNameView.{labels_found, labels_in, IsWholeName}
 
@@ -142,6 +145,16 @@ module _ (message : List ℕ) (end start len : ℕ) (name : IsName message end s
     pub labels_in-copy : labels_in octets ≡ labels_of (name_at message end start 0 0)
     labels_in-copy = labels_in-wire octets _ wire AreLabels-name
 
-pub ruleset labels_read = (AreLabels-name)
+-- a name that follows no pointer has as many octets as stand up to the place behind it
+pub len-plain : (message : List ℕ) (end start : ℕ) (span : Span)
+    → SpansName message end start span → span.is_compressed ≡ false → end ≤ length message
+    → start + length (name_wire (labels_of (name_at message end start 0 0))) ≡ span.next
+len-plain message end start span spans plain in_message =
+    let name : NameRead = record { labels = spans.labels; next = span.next } in
+    let len = name_len message end start name spans.read (sym spans.pointed ∙ plain) in_message
+    spans.in_data in
+    rw spans.read len
+
+pub ruleset labels_read = (AreLabels-name, len-plain)
 
 pub ruleset copy_rules = (IsWholeName-copy, labels_in-copy)

@@ -11,6 +11,17 @@ IsFaultOf ShortInput read = read ≡ Err spec.Short
 IsFaultOf Form read = read ≡ Err spec.Form
 IsFaultOf NoMemory read = ⊥
 
+-- the error that answers a fault
+abbrev pub error_of : spec.Fault → ParseError
+error_of spec.Short = ShortInput
+error_of spec.Form = Form
+
+-- what was read, as contracts see it, or the error
+abbrev pub value_item : {V Seen : Type 0} → (V → Seen) → Result V ParseError
+    → Result Seen ParseError
+value_item seen (Ok value) = Ok (seen value)
+value_item seen (Err error) = Err error
+
 -- the answer, seen by `view`, is what reading gives
 abbrev pub Gives : {X Y : Type 0} → (X → Y) → Result X ParseError → Result Y spec.Fault → Type 0
 Gives view (Ok x) read = read ≡ Ok (view x)

@@ -1,6 +1,6 @@
 //! Names in a message.
 
-ghost use Rattle.std.specs.Prelude.{◌≡◌, ◌≤◌, length, IfOk, OnOk, OnErr};
+ghost use Rattle.std.specs.Prelude.{◌≡◌, ◌+◌, ◌≤◌, false, length, IfOk, OnOk, OnErr};
 ghost use Rattle.name_spec.specs.Names.{name_wire, AreLabels};
 ghost use Rattle.wire_base.specs.Faults.{Gives};
 ghost use Rattle.wire_base.specs.Moving.{AppendsOctets, LacksRoom};
@@ -63,6 +63,8 @@ impl<'a> ParsedName<'a> {
             result (next_name parser.old) }
         ensures labels { IfOk result (λ name. AreLabels 0 name.labels) }
         ensures pointed { IfOk result (λ name. name.is_compressed ≡ is_next_pointed parser.old) }
+        ensures plain { IfOk result (λ name. name.is_compressed ≡ false
+            → parser.old.pos + length (name_wire name.labels) ≡ parser.new.pos) }
         ensures ok { OnOk result (parser.new ≡ record parser.old { pos = parser.new.pos }) }
         ensures err { OnErr result (parser.new ≡ parser.old) }
     {

@@ -72,6 +72,17 @@ impl<'a> Parser<'a> {
         self.pos
     }
 
+    /// A second parser at the same place of the same data, to read ahead with. This one stays.
+    pub fn fork(&self) -> Parser<'a>
+        ensures { result ≡ self.now }
+    {
+        Parser {
+            message: self.message,
+            end: self.end,
+            pos: self.pos,
+        }
+    }
+
     /// The count of octets before the end of the data.
     pub fn remaining(&self) -> usize
         ensures { result + self.now.pos ≡ self.now.end }

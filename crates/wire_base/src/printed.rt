@@ -1,11 +1,12 @@
 //! Octets as text.
 
-ghost use Rattle.std.specs.Prelude.{◌≡◌, Some, flat_map};
+ghost use Rattle.std.specs.Prelude.{◌≡◌, Some, false, flat_map, IsAscii};
 ghost use Rattle.std.specs.Fmt.{WritesOnOk};
+ghost use Rattle.std.specs.List.{prefix_len};
 ghost use Rattle.name_spec.specs.Printed.{is_visible, printed_octet, printed_octets, printed_label};
-ghost use Rattle.wire_base.specs.PrintedIn.{specials};
+ghost use Rattle.wire_base.specs.PrintedIn.{is_bare, specials};
 
-use std::fmt;
+use std::{fmt, str};
 
 /// Octets as text, which is their `Display` (RFC 1035, section 5.1): an octet of printable ASCII as itself, but space,
 /// `"`, `\`, `;`, `(` and `)` behind a backslash; each other octet as a backslash and three decimal digits.
@@ -44,6 +45,7 @@ impl fmt::Display for PrintedLabel<'_> {
     }
 }
 
+/// Writes octets. Those in a row that stand for themselves are written at once.
 fn write_octets<W: fmt::Write>(
     f: &mut fmt::Formatter<W>,
     octets: &[u8],
@@ -52,29 +54,58 @@ fn write_octets<W: fmt::Write>(
     ensures { WritesOnOk W.Write.write_str_gives f.old result
         (flat_map (printed_octet (specials in_name)) octets.now) f.new }
 {
-    for octet in octets {
-        write!(f, "{}", PrintedOctet(*octet, in_name))?;
+    let mut rest = octets;
+    loop {
+        let (bare, behind) = rest.split_at(bare_len(rest, in_name));
+        write_ascii(f, bare)?;
+        let Some((first, behind)) = behind.split_first() else {
+            return Ok(());
+        };
+        write_escape(f, *first, in_name)?;
+        rest = behind;
     }
-    Ok(())
 }
 
-/// An octet as text, in a name or not.
-#[derive(Clone, Copy)]
-struct PrintedOctet(u8, bool);
+/// How many octets stand for themselves before one that doesn't.
+fn bare_len(octets: &[u8], in_name: bool) -> usize
+    ensures { result ≡ prefix_len (is_bare in_name) octets.now }
+{
+    octets
+        .iter()
+        .take_while(|octet| is_bare(**octet, in_name))
+        .count()
+}
 
-impl fmt::Display for PrintedOctet {
-    ghost output = { λ printed. Some (printed_octet (specials printed.1) printed.0) };
-
-    fn fmt<W: fmt::Write>(&self, f: &mut fmt::Formatter<W>) -> fmt::Result {
-        let PrintedOctet(octet, in_name) = *self;
-        if is_special(octet, in_name) {
-            write!(f, "\\{}", char::from(octet))
-        } else if is_visible(octet) {
-            write!(f, "{}", char::from(octet))
-        } else {
-            write!(f, "\\{}{}{}", octet / 100, octet / 10 % 10, octet % 10)
-        }
+/// Writes an octet that doesn't stand for itself.
+fn write_escape<W: fmt::Write>(f: &mut fmt::Formatter<W>, octet: u8, in_name: bool) -> fmt::Result
+    requires { is_bare in_name octet ≡ false }
+    ensures { WritesOnOk W.Write.write_str_gives f.old result
+        (printed_octet (specials in_name) octet) f.new }
+{
+    if is_special(octet, in_name) {
+        return write_ascii(f, &[b'\\', octet]);
     }
+    let hundreds = b'0' + octet / 100;
+    let tens = b'0' + octet / 10 % 10;
+    let ones = b'0' + octet % 10;
+    write_ascii(f, &[b'\\', hundreds, tens, ones])
+}
+
+fn write_ascii<W: fmt::Write>(f: &mut fmt::Formatter<W>, octets: &[u8]) -> fmt::Result
+    requires { IsAscii octets.now }
+    ensures { WritesOnOk W.Write.write_str_gives f.old result octets.now f.new }
+{
+    let Ok(text) = str::from_utf8(octets) else {
+        unreachable!();
+    };
+    f.write_str(text)
+}
+
+/// Whether an octet stands for itself.
+fn is_bare(octet: u8, in_name: bool) -> bool
+    ensures { result ≡ is_bare in_name octet }
+{
+    is_visible(octet) && !is_special(octet, in_name)
 }
 
 /// Whether an octet stands behind a backslash.

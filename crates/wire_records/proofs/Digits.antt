@@ -1,81 +1,77 @@
--- Octets in base16.
-use Rattle.std.proofs.Common.{◌≡◌, ℕ, ◌+◌, ◌<◌, ◌/◌, ◌%◌, ◌^◌, ◌-◌, ◌==◌, ◌&&◌, zero, suc, Bool, true, false, inl, inr, List, [], ◌∷◌, ◌++◌, take, length, get_or, refl, sym, ap, ◌∙◌, arith}
-use Rattle.std.specs.Fmt.{digits, digit_glyph, padded_integral, format_spec}
-use Rattle.std.proofs.lemmas.Fmt.{hex_byte}
-use Rattle.std.proofs.lemmas.List.{take_more}
-use Rattle.std.proofs.lemmas.Bool.{and_parts, cases_lt}
-use borrow.Author.Tests.{eqb-true}
+-- Octets in base16, chunk by chunk.
+use Rattle.std.proofs.Common.{◌≡◌, ℕ, ◌/◌, ◌%◌, ◌*◌, Bool, true, false, cond, ◌&&◌, List, [], ◌∷◌, ◌++◌, take, length, slice_index, refl, sym, ap, ◌∙◌}
+use Rattle.std.specs.Prelude.{nat_lt}
+use Rattle.std.specs.Str.{IsAscii, IsUtf8}
+use Rattle.std.proofs.lemmas.Bool.{and_parts}
+use Rattle.std.proofs.lemmas.List.{take_at}
+use Rattle.std.proofs.lemmas.Str.{IsUtf8-from_ascii}
+use Rattle.std.proofs.lemmas.Str.Ascii.{IsAscii-nil, IsAscii-cons}
+use borrow.Author.Tests.{ltb-true}
 use Rattle.hex.specs.Hex.{encode_with, lower_digits, upper_digits}
+use Rattle.hex.proofs.HexLemmas.{length-encode_with, IsAscii-encode_with}
 use Rattle.wire_records.specs.Texts.{base16_in}
 
--- the table of digits of that case
-abbrev table : Bool → List ℕ
-table true = upper_digits
-table false = lower_digits
-
--- the test of the first n digits, which computes
-abbrev are_digits : Bool → ℕ → Bool
-are_digits up zero = true
-are_digits up (suc n) = (digit_glyph up n == get_or (table up) n 0) && are_digits up n
-
-are_digits-at : (up : Bool) (n d : ℕ) → are_digits up n ≡ true → d < n
-    → digit_glyph up d ≡ get_or (table up) d 0
-are_digits-at up zero d test below = absurd (omega arith)
-are_digits-at up (suc n) d test below =
-    let parts = and_parts (digit_glyph up n == get_or (table up) n 0) (are_digits up n) test in
-    elim (cases_lt d n) [
-      | inl under ↦ are_digits-at up n d parts.1 under
-      | inr top ↦ let last : d ≡ n = omega arith
-          in rw last (eqb-true (digit_glyph up n) (get_or (table up) n 0) parts.0)
-    ]
-
--- the digit is that of the table
-digit_of : (up : Bool) (d : ℕ) → d < 16 → digit_glyph up d ≡ get_or (table up) d 0
-digit_of true d low = are_digits-at true 16 d refl low
-digit_of false d low = are_digits-at false 16 d refl low
-
 -- base16 by its table
-by_table : (up : Bool) (octets : List ℕ) → encode_with (table up) octets ≡ base16_in up octets
+pub by_table : (up : Bool) (octets : List ℕ)
+    → encode_with (cond up upper_digits lower_digits) octets ≡ base16_in up octets
 by_table true octets = refl
 by_table false octets = refl
 
 -- the digits of octets, and of others behind them
-pub encode_with-append : (t xs ys : List ℕ)
+encode_with-append : (t xs ys : List ℕ)
     → encode_with t (xs ++ ys) ≡ encode_with t xs ++ encode_with t ys
 unfolding encode_with
 encode_with-append t [] ys = refl
 encode_with-append t (x ∷ xs) ys =
-    ap (λ (rest : List ℕ). get_or t (x / 16) 0 ∷ get_or t (x % 16) 0 ∷ rest)
+    ap (λ (rest : List ℕ). slice_index t (x / 16) ∷ slice_index t (x % 16) ∷ rest)
     (encode_with-append t xs ys)
 
+pub base16_in-append : (up : Bool) (xs ys : List ℕ)
+    → base16_in up xs ++ base16_in up ys ≡ base16_in up (xs ++ ys)
+base16_in-append true xs ys = sym (encode_with-append upper_digits xs ys)
+base16_in-append false xs ys = sym (encode_with-append lower_digits xs ys)
+
 -- no octets have no digits
-pub none : (up : Bool) → [] ≡ base16_in up []
+pub base16_in-nil : (up : Bool) → base16_in up [] ≡ []
 unfolding encode_with
-none true = refl
-none false = refl
+base16_in-nil true = refl
+base16_in-nil false = refl
 
--- the digits of one octet
-pub octet_digits : (up : Bool) (octet : ℕ) → octet < 256
-    → padded_integral (format_spec 32 0 4 2 (2 ^ 64 - 1)) false [] (digits 16 up octet)
-    ≡ base16_in up (octet ∷ [])
-unfolding encode_with
-octet_digits up octet fits =
-    hex_byte up octet fits
-    ∙ ap (λ (high : ℕ). high ∷ digit_glyph up (octet % 16) ∷ [])
-    (digit_of up (octet / 16) (omega arith))
-    ∙ ap (λ (low : ℕ). get_or (table up) (octet / 16) 0 ∷ low ∷ [])
-    (digit_of up (octet % 16) (omega arith))
-    ∙ by_table up (octet ∷ [])
+-- two digits for each octet
+pub length-base16_in : (up : Bool) (octets : List ℕ)
+    → length (base16_in up octets) ≡ 2 * length octets
+length-base16_in true octets = length-encode_with upper_digits octets
+length-base16_in false octets = length-encode_with lower_digits octets
 
--- one octet more
-pub one_more : (up : Bool) (octets : List ℕ) (i : ℕ) → i < length octets
-    → base16_in up (take i octets) ++ base16_in up (get_or octets i 0 ∷ [])
-    ≡ base16_in up (take (i + 1) octets)
-one_more up octets i within =
-    ap (λ (ds : List ℕ). ds ++ base16_in up (get_or octets i 0 ∷ []))
-    (sym (by_table up (take i octets)))
-    ∙ ap (λ (ds : List ℕ). encode_with (table up) (take i octets) ++ ds)
-    (sym (by_table up (get_or octets i 0 ∷ [])))
-    ∙ sym (encode_with-append (table up) (take i octets) (get_or octets i 0 ∷ []))
-    ∙ ap (encode_with (table up)) (sym (take_more octets i 0 within))
-    ∙ by_table up (take (i + 1) octets)
+-- the test of a table, which computes
+abbrev all_ascii : List ℕ → Bool
+all_ascii [] = true
+all_ascii (c ∷ rest) = nat_lt c 128 && all_ascii rest
+
+IsAscii-from_test : (t : List ℕ) → all_ascii t ≡ true → IsAscii t
+IsAscii-from_test [] test = IsAscii-nil
+IsAscii-from_test (c ∷ rest) test =
+    let parts = and_parts (nat_lt c 128) (all_ascii rest) test in
+    IsAscii-cons c rest (ltb-true c 128 parts.0) (IsAscii-from_test rest parts.1)
+
+IsAscii-base16_in : (up : Bool) (octets : List ℕ) → IsAscii (base16_in up octets)
+IsAscii-base16_in true octets =
+    IsAscii-encode_with upper_digits octets (IsAscii-from_test upper_digits refl)
+IsAscii-base16_in false octets =
+    IsAscii-encode_with lower_digits octets (IsAscii-from_test lower_digits refl)
+
+-- the digits stand at the front of the buffer
+pub front_digits : (up : Bool) (octets digits rest : List ℕ)
+    → digits ≡ encode_with (cond up upper_digits lower_digits) octets
+    → take (2 * length octets) (digits ++ rest) ≡ base16_in up octets
+front_digits up octets digits rest are =
+    let all = are ∙ by_table up octets in
+    take_at digits rest (2 * length octets) (ap length all ∙ length-base16_in up octets) ∙ all
+
+-- and are a text
+pub front_text : (up : Bool) (octets digits rest : List ℕ)
+    → digits ≡ encode_with (cond up upper_digits lower_digits) octets
+    → IsUtf8 (take (2 * length octets) (digits ++ rest))
+front_text up octets digits rest are =
+    rw (front_digits up octets digits rest are)
+    (IsUtf8-from_ascii (base16_in up octets) (IsAscii-base16_in up octets))

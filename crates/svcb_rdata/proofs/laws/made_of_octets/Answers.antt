@@ -17,4 +17,4 @@ returns g c =
     data_of_octets found c.as_slice.result.now c.as_slice-2.result.now is
     (c.as_slice.ensures.octets ∙ ap name_wire c.target.ensures)
     (c.as_slice-2.ensures.octets ∙ ap wire c.params.ensures)
-    c.are_octets.ensures c.are_octets-2.ensures
+    c.slice_of_octets.ensures c.slice_of_octets-2.ensures

@@ -2,7 +2,7 @@ use Rattle.std.proofs.Common.{◌≡◌, length}
 use Rattle.svcb_spec.specs.Values.{Each}
 use Rattle.svcb_spec.specs.BuildingValues.{IsProtocolLength}
 use Rattle.svcb_spec.specs.ValueTexts.{protocols_of}
-use Rattle.svcb_spec.proofs.ProtocolTexts.{left_len}
+use Rattle.svcb_spec.specs.ListTexts.{left_len}
 use Rattle.svcb_text.proofs.ProtocolLemmas.{behind_protocols, protocols_left}
 use Rattle.svcb_text.proofs.alpn.read_protocols.Given as goal
 

@@ -1,0 +1,6 @@
+use Rattle.std.proofs.lemmas.Str.{IsUtf8-from_ascii}
+use Rattle.wire_base.proofs.printed.write_ascii.Goals as goal
+
+pub unreachable-requires : goal.unreachable-requires
+unreachable-requires g c =
+    c.in_default.ensures.cases.0 (IsUtf8-from_ascii c.args.octets.now c.requires)
