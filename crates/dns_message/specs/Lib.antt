@@ -1,0 +1,5 @@
+pub mod Headers
+pub mod Entries
+pub mod Messages
+pub mod Searching
+pub mod Laws
