@@ -1,0 +1,5 @@
+pub mod Ascending
+pub mod Digests
+pub mod Repeats
+pub mod ZoneLaws
+pub mod Vectors
