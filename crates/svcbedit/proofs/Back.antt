@@ -44,14 +44,15 @@ use Rattle.record_laws.specs.UnionLaws.{IsUnionData, UnionTextReadBack}
 use Rattle.devices.specs.declared.transfer.TheConstants.{MAX_INPUT}
 use Rattle.svcbedit.specs.Commands.{answer_of, is_reading, answer_to, due}
 use Rattle.svcbedit.specs.Laws.{data_hexadecimal, due_to_show, due_to_scan, ShownIsScannedBack, TypesAreScannedBack, AllDataBack}
-use Rattle.svcbedit.specs.Lines.{pieces, lines, without_empty_last}
-use Rattle.svcbedit.specs.Pushes.{hexadecimal_octets}
-use Rattle.svcbedit.specs.Spelling.{line_or_fault, first_fault_or, ◌>>=◌}
-use Rattle.svcbedit.specs.Report as report
+use Rattle.command_lines.specs.Lines.{pieces, lines, without_empty_last}
+use Rattle.command_lines.specs.Hexadecimal.{hexadecimal_octets}
+use Rattle.command_lines.specs.Spelling.{line_or_fault, first_fault_or, ◌>>=◌}
+use Rattle.command_lines.specs.Report as report
+use Rattle.command_lines.specs.Tokens.{entry_scanned}
 use Rattle.svcbedit.specs.Report.{too_long}
-use Rattle.svcbedit.specs.Scan.{entry_scanned, data_scanned}
+use Rattle.svcbedit.specs.Scan.{data_scanned}
 use Rattle.svcbedit.specs.Show.{second_fault, only_line, spelled_octets, whole_message, whole_data, data_in, data_shown, due_of_octets, due_of_show}
-use Rattle.svcbedit.specs.declared.spelling.InputFault.{InputFault}
+use Rattle.command_lines.specs.declared.faults.InputFault.{InputFault}
 use Rattle.svcbedit.specs.declared.words.Command.{Command}
 use Rattle.svcbedit.specs.declared.words.Command.TheVariants.{Show, Scan}
 use Rattle.svcbedit.proofs.ReadData.{AreSmall, octets_from, label_octets, rdata_small}

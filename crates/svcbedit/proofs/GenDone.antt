@@ -19,7 +19,7 @@ use Rattle.svcbedit.specs.Commands.{answer_of, is_reading}
 use Rattle.svcbedit.specs.Edit.{report_of}
 use Rattle.svcbedit.specs.Generate.{own_message, own_params, own_push, own_rebuilt, pushes_below, summary}
 use Rattle.svcbedit.specs.Laws.{GenIsDone}
-use Rattle.svcbedit.specs.Report as report
+use Rattle.command_lines.specs.Report as report
 
 -- ---- pushes stay within a limit
 

@@ -1,7 +1,3 @@
-pub mod LineLemmas
-pub mod NumberLemmas
-pub mod SpellingLemmas
-pub mod TokenLemmas
 pub mod ReadData
 pub mod ReadWhole
 pub mod Back

@@ -1,14 +1,9 @@
 -- The first line of an input of `edit`.
 use Rattle.std.specs.Prelude.{ℕ, Option, Some, None, List, [], ◌∷◌}
-use Rattle.svcbedit.specs.Lines.{words}
-use Rattle.svcbedit.specs.Numbers.{decimal_number}
+use Rattle.command_lines.specs.Lines.{words}
+use Rattle.command_lines.specs.Options.{◌>>=◌}
+use Rattle.command_lines.specs.Numbers.{decimal_number}
 use Rattle.svcbedit.specs.declared.data_bounds.DataBounds.{DataBounds}
-
--- the next step, where the step before it gave a value
-infixl 10 ◌>>=◌
-abbrev pub ◌>>=◌ : {A B : Type 0} → Option A → (A → Option B) → Option B
-Some x >>= f = f x
-None >>= f = None
 
 -- three numbers
 abbrev pub data_bounds_of_words : List (List ℕ) → Option DataBounds

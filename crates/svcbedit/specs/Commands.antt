@@ -5,7 +5,8 @@ use Rattle.std.specs.Option.{option_map}
 use Rattle.devices.specs.declared.transfer.TheConstants.{MAX_INPUT}
 use Rattle.svcbedit.specs.Edit.{due_of_edit}
 use Rattle.svcbedit.specs.Generate.{due_of_gen}
-use Rattle.svcbedit.specs.Report.{Answer, no_command, too_long}
+use Rattle.command_lines.specs.Report.{Answer}
+use Rattle.svcbedit.specs.Report.{no_command, too_long}
 use Rattle.svcbedit.specs.Scan.{due_of_scan}
 use Rattle.svcbedit.specs.Show.{due_of_show}
 use Rattle.svcbedit.specs.declared.words.Command.{Command}

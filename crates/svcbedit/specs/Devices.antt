@@ -4,7 +4,7 @@ use Rattle.std.specs.Bool.{OnTrue, OnFalse}
 use Rattle.std.specs.Io.KnownBytes.{IsAtEnd}
 use Rattle.devices.specs.Takes.{TakesInput}
 use Rattle.devices.specs.declared.transfer.TheConstants.{MAX_INPUT}
-use Rattle.svcbedit.specs.Report.{Answer}
+use Rattle.command_lines.specs.Report.{Answer}
 use Rattle.svcbedit.specs.Run.{Performs}
 use Rattle.svcbedit.specs.RunErrors.{SourceCause, SinkCause, LastWrite}
 use Rattle.svcbedit.specs.declared.run_error.RunError.{RunError}

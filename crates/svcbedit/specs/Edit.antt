@@ -2,12 +2,14 @@
 use Rattle.std.specs.Prelude.{ℕ, List, ◌++◌, Result, Ok, Err, codes}
 use Rattle.hex.specs.Hex.{encode_lower}
 use Rattle.svcb_spec.specs.Rebuilding.{Rebuilt, Refusal, Unread, OverLimit, TooLong, rebuild}
-use Rattle.svcbedit.specs.ExitCodes.{exit_code}
-use Rattle.svcbedit.specs.Faults.{due_of_fault, data_fault_text}
-use Rattle.svcbedit.specs.Report.{Answer, line, not_done, reply_lines}
+use Rattle.command_lines.specs.ExitCodes.{exit_code}
+use Rattle.command_lines.specs.Faults.{due_of_fault}
+use Rattle.command_lines.specs.Report.{Answer, line, not_done}
+use Rattle.command_lines.specs.declared.exit_status.ExitStatus.TheVariants as exit
+use Rattle.command_lines.specs.declared.faults.InputFault.{InputFault}
+use Rattle.svcbedit.specs.Faults.{data_fault_text}
+use Rattle.svcbedit.specs.Report.{reply_lines}
 use Rattle.svcbedit.specs.Spelling.{Spelled, spelling_of}
-use Rattle.svcbedit.specs.declared.exit_status.ExitStatus.TheVariants as exit
-use Rattle.svcbedit.specs.declared.spelling.InputFault.{InputFault}
 
 -- what a report says of a refusal
 abbrev pub refusal_text : Refusal → List ℕ

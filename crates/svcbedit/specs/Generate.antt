@@ -10,7 +10,7 @@ use Rattle.svcb_spec.specs.Params.{pair_wire}
 use Rattle.svcb_spec.specs.Rebuilding.{Rebuilt, Refusal, rebuild}
 use Rattle.svcb_spec.specs.Values.{Value, Unknown}
 use Rattle.svcbedit.specs.Edit.{report_of}
-use Rattle.svcbedit.specs.Report.{Answer, done_answer}
+use Rattle.command_lines.specs.Report.{Answer, done_answer}
 use Rattle.svcbedit.specs.declared.generate.TheConstants.{MAX_PARAMS, MAX_PUSHED, PARAMS_LIMIT}
 
 -- the first parameters of the data: under the key 100 + 8i the two octets of i

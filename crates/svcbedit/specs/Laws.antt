@@ -6,10 +6,10 @@ use Rattle.svcb_laws.specs.DataTextLaws.{IsRecordOfOctets}
 use Rattle.record_spec.specs.RecordData.{RecordData, Svcb, Https, union_wire}
 use Rattle.record_spec.specs.UnionTexts.{union_printed}
 use Rattle.svcbedit.specs.Commands.{due}
-use Rattle.svcbedit.specs.ExitCodes.{exit_code}
-use Rattle.svcbedit.specs.Report.{Answer, done_answer, line}
+use Rattle.command_lines.specs.ExitCodes.{exit_code}
+use Rattle.command_lines.specs.Report.{Answer, done_answer, line}
 use Rattle.svcbedit.specs.Show.{spelled_octets, data_in}
-use Rattle.svcbedit.specs.declared.exit_status.ExitStatus.TheVariants as exit
+use Rattle.command_lines.specs.declared.exit_status.ExitStatus.TheVariants as exit
 use Rattle.svcbedit.specs.declared.words.Command.TheVariants.{Show, Scan, Gen}
 
 -- the octets of data in hexadecimal

@@ -1,5 +1,3 @@
-pub mod Lines
-pub mod Numbers
 pub mod Bounds
 pub mod TokenPushes
 pub mod Pushes
@@ -7,9 +5,7 @@ pub mod Report
 pub mod Faults
 pub mod Spelling
 pub mod SpellingView
-pub mod ReportView
 pub mod Edit
-pub mod ExitCodes
 pub mod Show
 pub mod Scan
 pub mod Generate

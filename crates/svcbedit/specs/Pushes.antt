@@ -1,17 +1,12 @@
 -- The lines of an input of `edit` that push a value.
 use Rattle.std.specs.Prelude.{ℕ, Bool, Option, Some, None, List, [], ◌∷◌, length, take, drop, nat_lt, nat_le, ◌==◌, if◌then◌else◌, codes}
-use Rattle.std.specs.Result.{result_ok}
 use Rattle.std.specs.Str.{bytes_eq}
-use Rattle.hex.specs.Hex.{decode_of}
 use Rattle.svcb_spec.specs.Values.{Value, Unknown}
-use Rattle.svcbedit.specs.Lines.{words}
-use Rattle.svcbedit.specs.Numbers.{decimal_number, max_u16}
-use Rattle.svcbedit.specs.Bounds.{◌>>=◌}
+use Rattle.command_lines.specs.Hexadecimal.{hexadecimal_octets}
+use Rattle.command_lines.specs.Lines.{words}
+use Rattle.command_lines.specs.Numbers.{decimal_number, max_u16}
+use Rattle.command_lines.specs.Options.{◌>>=◌}
 use Rattle.svcbedit.specs.TokenPushes.{token_push}
-
--- the octets of an even count of hexadecimal digits, in either case
-abbrev pub hexadecimal_octets : List ℕ → Option (List ℕ)
-hexadecimal_octets text = result_ok (decode_of text)
 
 -- a number of at most 65,535
 abbrev pub key_in_text : List ℕ → Option ℕ

@@ -1,9 +1,9 @@
 -- How the program ends.
 use Rattle.std.specs.Prelude.{◌≡◌, ◌≢◌, ◌<◌, ◌≤◌, ℕ, List, Option, Some, None, Result, Ok, Err, take, IfOk, IfSome, MatchResult}
 use Rattle.std.specs.Io.KnownBytes.{Appends, Keeps}
-use Rattle.svcbedit.specs.ExitCodes.{exit_code}
-use Rattle.svcbedit.specs.Report.{Answer}
-use Rattle.svcbedit.specs.declared.exit_status.ExitStatus.TheVariants as exit
+use Rattle.command_lines.specs.ExitCodes.{exit_code}
+use Rattle.command_lines.specs.Report.{Answer}
+use Rattle.command_lines.specs.declared.exit_status.ExitStatus.TheVariants as exit
 use Rattle.svcbedit.specs.declared.words.Command.{Command}
 use Rattle.svcbedit.specs.declared.run_error.RunError.{RunError}
 use Rattle.svcbedit.specs.declared.run_error.RunError.TheVariants.{ReadFault, WriteFault, NoMemory}

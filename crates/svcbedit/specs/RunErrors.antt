@@ -5,8 +5,8 @@ use Rattle.std.specs.declared.io.ErrorKind.TheVariants.{OutOfMemory}
 use Rattle.devices.specs.Faults.{Rose}
 use Rattle.devices.specs.declared.transfer.ReadError.{ReadError}
 use Rattle.devices.specs.declared.transfer.ReadError.TheVariants as read
-use Rattle.svcbedit.specs.ExitCodes.{exit_code}
-use Rattle.svcbedit.specs.declared.exit_status.ExitStatus.TheVariants as exit
+use Rattle.command_lines.specs.ExitCodes.{exit_code}
+use Rattle.command_lines.specs.declared.exit_status.ExitStatus.TheVariants as exit
 use Rattle.svcbedit.specs.declared.run_error.RunError.{RunError}
 use Rattle.svcbedit.specs.declared.run_error.RunError.TheVariants.{ReadFault, WriteFault, NoMemory}
 

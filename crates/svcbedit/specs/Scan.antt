@@ -1,20 +1,12 @@
 -- What answers `scan`.
-use Rattle.std.specs.Prelude.{ℕ, Some, None, Result, Ok, Err, List}
+use Rattle.std.specs.Prelude.{ℕ, Result, Ok, Err, List}
 use Rattle.hex.specs.Hex.{encode_lower}
 use Rattle.text_spec.specs.declared.errors.ScanError.{ScanError}
 use Rattle.text_spec.specs.Faults.{scan_fault_text}
-use Rattle.text_spec.specs.Scanning.{Scanning}
-use Rattle.text_spec.specs.Tokens.{text_fault, tokens_in}
 use Rattle.record_spec.specs.RecordData.{RecordData, union_wire}
 use Rattle.record_spec.specs.UnionTexts.{union_scan}
-use Rattle.svcbedit.specs.Report.{Answer, done_answer, not_done}
-
--- what a text is scanned as: its first lexical fault, and else what its tokens are
-abbrev pub entry_scanned : {V : Type 0} → Scanning V → List ℕ → Result V ScanError
-entry_scanned scanning text = elim (text_fault text) [
-  | Some fault ↦ Err fault
-  | None ↦ (scanning (tokens_in text) 0).outcome
-]
+use Rattle.command_lines.specs.Report.{Answer, done_answer, not_done}
+use Rattle.command_lines.specs.Tokens.{entry_scanned}
 
 -- to a text that is scanned as data: the octets of it
 abbrev pub data_scanned : Result RecordData ScanError → Answer

@@ -6,13 +6,14 @@ use Rattle.wire_base.specs.RecordReading.{DataRead}
 use Rattle.record_spec.specs.RecordData.{RecordData}
 use Rattle.record_spec.specs.UnionReading.{union_read}
 use Rattle.record_spec.specs.UnionTexts.{union_printed}
-use Rattle.svcbedit.specs.Faults.{due_of_fault, data_fault_text}
-use Rattle.svcbedit.specs.Lines.{lines}
-use Rattle.svcbedit.specs.Pushes.{hexadecimal_octets}
-use Rattle.svcbedit.specs.Report.{Answer, done_answer, not_done}
-use Rattle.svcbedit.specs.Spelling.{line_or_fault, first_fault_or, ◌>>=◌}
-use Rattle.svcbedit.specs.declared.spelling.InputFault.{InputFault}
-use Rattle.svcbedit.specs.declared.spelling.InputFault.TheVariants.{BadLine}
+use Rattle.command_lines.specs.Faults.{due_of_fault}
+use Rattle.command_lines.specs.Hexadecimal.{hexadecimal_octets}
+use Rattle.command_lines.specs.Lines.{lines}
+use Rattle.command_lines.specs.Report.{Answer, done_answer, not_done}
+use Rattle.command_lines.specs.Spelling.{line_or_fault, first_fault_or, ◌>>=◌}
+use Rattle.command_lines.specs.declared.faults.InputFault.{InputFault}
+use Rattle.command_lines.specs.declared.faults.InputFault.TheVariants.{BadLine}
+use Rattle.svcbedit.specs.Faults.{data_fault_text}
 
 -- a second line is a fault
 abbrev pub second_fault : List (List ℕ) → Option InputFault

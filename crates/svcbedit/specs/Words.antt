@@ -3,8 +3,8 @@ use Rattle.std.specs.Prelude.{ℕ, nat_le, ◌&&◌, Option, Some, None, List, [
 use Rattle.std.specs.Option.{option_map}
 use Rattle.std.specs.Str.{bytes_eq}
 use Rattle.std.specs.declared.string.String.{String}
-use Rattle.svcbedit.specs.Numbers.{decimal_number, max_u16}
-use Rattle.svcbedit.specs.Bounds.{◌>>=◌}
+use Rattle.command_lines.specs.Numbers.{decimal_number, max_u16}
+use Rattle.command_lines.specs.Options.{◌>>=◌}
 use Rattle.svcbedit.specs.declared.generate.TheConstants.{MAX_PARAMS}
 use Rattle.svcbedit.specs.declared.words.Command.{Command}
 use Rattle.svcbedit.specs.declared.words.Command.TheVariants.{Edit, Show, Scan, Gen}

@@ -1,14 +1,14 @@
 //! What each command answers.
 ghost use Rattle.std.specs.Prelude.{◌≡◌, IfOk};
 ghost use Rattle.svcbedit.specs.Commands.{answer_to};
-ghost use Rattle.svcbedit.specs.ReportView.{answer_view};
+ghost use Rattle.command_lines.specs.ReportView.{answer_view};
 
 use crate::edit::edit_answer;
 use crate::generate::gen_answer;
-use crate::report::{Answer, Outcome, text_answer};
 use crate::scan::scan_answer;
 use crate::show::show_answer;
 use crate::words::Command;
+use command_lines::report::{Answer, Outcome, text_answer};
 use devices::MAX_INPUT;
 use std::alloc::Global;
 use wire_base::NoMemory;

@@ -2,8 +2,8 @@
 ghost use Rattle.std.specs.Prelude.{◌≡◌};
 ghost use Rattle.svcbedit.specs.Bounds.{data_bounds_of};
 
-use crate::lines::Pieces;
-use crate::numbers::number;
+use command_lines::lines::Pieces;
+use command_lines::numbers::number;
 
 /// Where record data stands in a message, and how long its parameters may become, in octets.
 #[derive(Clone, Copy, Debug, PartialEq, Eq)]

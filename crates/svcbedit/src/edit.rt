@@ -5,11 +5,13 @@ ghost use Rattle.svcb_spec.specs.Rebuilding.{rebuild};
 ghost use Rattle.svcb_rdata.specs.RebuiltView.{IsRefusal};
 ghost use Rattle.svcb_text.specs.AllValues.{value_of};
 ghost use Rattle.svcbedit.specs.Edit.{report_of, rebuild_report, due_of_edit};
-ghost use Rattle.svcbedit.specs.Report as report;
-ghost use Rattle.svcbedit.specs.ReportView.{answer_view};
+ghost use Rattle.command_lines.specs.Report as report;
+ghost use Rattle.command_lines.specs.ReportView.{answer_view};
 
-use crate::report::{Answer, Outcome, done_report, refused_answer, text_answer};
-use crate::spelling::{SpellError, Spelling, read_spelling};
+use crate::report::done_report;
+use crate::spelling::{Spelling, read_spelling};
+use command_lines::faults::SpellError;
+use command_lines::report::{Answer, Outcome, refused_answer, text_answer};
 use devices::MAX_INPUT;
 use std::alloc::Global;
 use svcb_rdata::{RebuildError, rebuild_svcb};

@@ -6,11 +6,11 @@ ghost use Rattle.svcb_spec.specs.Params.{pair_wire};
 ghost use Rattle.svcb_text.specs.AllValues.{value_of};
 ghost use Rattle.svcb_rdata.specs.RebuiltView.{rebuilt_view};
 ghost use Rattle.svcbedit.specs.Generate.{own_message, own_push, pushes_at, pushes_below, is_accepted, is_duplicate, summary, summary_text, due_of_gen};
-ghost use Rattle.svcbedit.specs.Report.{done_answer};
-ghost use Rattle.svcbedit.specs.ReportView.{answer_view};
+ghost use Rattle.command_lines.specs.Report.{done_answer};
+ghost use Rattle.command_lines.specs.ReportView.{answer_view};
 
 use crate::edit::refusal_answer;
-use crate::report::{Answer, Outcome};
+use command_lines::report::{Answer, Outcome};
 use std::alloc::Global;
 use std::fmt;
 use svcb_rdata::{AllValues, Rebuilt, Reply, SvcParamKey, UnknownSvcParam, rebuild_svcb};

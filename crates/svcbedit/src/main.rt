@@ -4,8 +4,8 @@
 ghost use Rattle.std.specs.Prelude.{◌≡◌};
 ghost use Rattle.svcbedit.specs.RunErrors.{status_without_words};
 
+use command_lines::exit_status::ExitStatus;
 use devices::{StdSink, StdSource};
-use exit_status::ExitStatus;
 use run::run;
 use std::process::ExitCode;
 use std::{env, io};
@@ -13,14 +13,10 @@ use std::{env, io};
 mod commands;
 mod data_bounds;
 mod edit;
-mod exit_status;
 mod generate;
-mod hexadecimal;
 pub mod laws;
-mod lines;
 #[cfg(test)]
 mod long_tests;
-mod numbers;
 mod pushes;
 mod report;
 mod run;

@@ -3,13 +3,13 @@ ghost use Rattle.std.specs.Prelude.{◌≡◌, ◌<◌, ◌≤◌, length, IfOk,
 ghost use Rattle.std.specs.Option.{option_map, option_copied};
 ghost use Rattle.svcb_spec.specs.Values.{Unknown};
 ghost use Rattle.svcb_text.specs.AllValues.{value_of};
-ghost use Rattle.svcbedit.specs.Lines.{words};
+ghost use Rattle.command_lines.specs.Lines.{words};
 ghost use Rattle.svcbedit.specs.Pushes.{key_in_text, value_octets, raw_value, raw_of_words, push_of};
 
-use crate::hexadecimal::octets_in;
-use crate::lines::Pieces;
-use crate::numbers::number;
 use crate::token_pushes::token_param;
+use command_lines::hexadecimal::octets_in;
+use command_lines::lines::Pieces;
+use command_lines::numbers::number;
 use std::alloc::Global;
 use svcb_rdata::{AllValues, SvcParamKey, UnknownSvcParam};
 use wire_base::{NoMemory, Octets};

@@ -6,17 +6,17 @@ ghost use Rattle.devices.specs.Faults.{Rose};
 ghost use Rattle.devices.specs.Takes.{TakesAtMost, TakesFront};
 ghost use Rattle.svcbedit.specs.Commands.{due, is_reading, reads_input};
 ghost use Rattle.svcbedit.specs.Devices.{Draws, Reports};
-ghost use Rattle.svcbedit.specs.ExitCodes.{exit_code};
-ghost use Rattle.svcbedit.specs.ReportView.{answer_view};
+ghost use Rattle.command_lines.specs.ExitCodes.{exit_code};
+ghost use Rattle.command_lines.specs.ReportView.{answer_view};
 ghost use Rattle.svcbedit.specs.Run.{Ends, Whole, TellsCommand, IsWriteFault, IsNoWriteFault, IsNoReadFault};
 ghost use Rattle.svcbedit.specs.Words.{command_of};
-ghost use Rattle.svcbedit.specs.declared.exit_status.ExitStatus.TheVariants as exit;
+ghost use Rattle.command_lines.specs.declared.exit_status.ExitStatus.TheVariants as exit;
 
 use crate::commands::command_answer;
-use crate::exit_status::ExitStatus;
-use crate::report::Answer;
 use crate::run_error::RunError;
 use crate::words::{Command, command_in};
+use command_lines::exit_status::ExitStatus;
+use command_lines::report::Answer;
 use devices::{MAX_INPUT, Sink, Source, read_input, write_all};
 use std::alloc::Global;
 

@@ -2,7 +2,7 @@
 ghost use Rattle.std.specs.Prelude.{◌≡◌};
 ghost use Rattle.svcbedit.specs.RunErrors.{run_error_status};
 
-use crate::exit_status::ExitStatus;
+use command_lines::exit_status::ExitStatus;
 use devices::{Failed, ReadError};
 use thiserror::Error;
 use wire_base::NoMemory;

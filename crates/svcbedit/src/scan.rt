@@ -3,10 +3,11 @@ ghost use Rattle.std.specs.Prelude.{◌≡◌, IfOk};
 ghost use Rattle.text_spec.specs.Scanning.{Answers};
 ghost use Rattle.record_spec.specs.UnionTexts.{union_scan};
 ghost use Rattle.rdata_union.specs.Views.{data_of_zone};
-ghost use Rattle.svcbedit.specs.ReportView.{answer_view};
-ghost use Rattle.svcbedit.specs.Scan.{entry_scanned, due_of_scan};
+ghost use Rattle.command_lines.specs.ReportView.{answer_view};
+ghost use Rattle.command_lines.specs.Tokens.{entry_scanned};
+ghost use Rattle.svcbedit.specs.Scan.{due_of_scan};
 
-use crate::report::{Answer, Outcome, octets_answer};
+use command_lines::report::{Answer, Outcome, octets_answer};
 use dns_text::{Entry, EntryScanner};
 use rdata_union::ZoneRecordData;
 use std::alloc::Global;

@@ -1,10 +1,11 @@
 //! What answers `show`.
 ghost use Rattle.std.specs.Prelude.{◌≡◌, IfOk};
-ghost use Rattle.svcbedit.specs.ReportView.{answer_view};
+ghost use Rattle.command_lines.specs.ReportView.{answer_view};
 ghost use Rattle.svcbedit.specs.Show.{data_in, data_shown, due_of_show};
 
-use crate::report::{Answer, Outcome, refused_answer, text_answer};
-use crate::spelling::{SpellError, read_octets};
+use crate::spelling::read_octets;
+use command_lines::faults::SpellError;
+use command_lines::report::{Answer, Outcome, refused_answer, text_answer};
 use rdata_union::AllRecordData;
 use std::alloc::Global;
 use wire_base::{NoMemory, ParseError, Parser, Rtype};

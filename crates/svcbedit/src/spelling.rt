@@ -1,91 +1,29 @@
 //! What an input of `edit` spells.
-ghost use Rattle.std.specs.Prelude.{◌≡◌, ◌+◌, ◌^◌, ◌<◌, ◌≤◌, List, [], length, drop, map, Some, IfOk, IfErr, OnOk, slice_get, option_and_then};
+ghost use Rattle.std.specs.Prelude.{◌≡◌, ◌+◌, ◌^◌, ◌<◌, ◌≤◌, length, drop, map, Some, IfOk, IfErr, OnOk, slice_get, option_and_then};
 ghost use Rattle.svcb_text.specs.AllValues.{value_of};
-ghost use Rattle.svcbedit.specs.Lines.{lines};
+ghost use Rattle.command_lines.specs.Spelling.{line_or_fault, each_line, SpellsAs};
 ghost use Rattle.svcbedit.specs.Bounds.{data_bounds_of};
-ghost use Rattle.svcbedit.specs.Pushes.{hexadecimal_octets};
-ghost use Rattle.svcbedit.specs.Faults.{fault_text, bounds_fault};
+ghost use Rattle.svcbedit.specs.Faults.{bounds_fault};
+ghost use Rattle.svcbedit.specs.Pushes.{push_of};
 ghost use Rattle.svcbedit.specs.Show.{spelled_octets};
-ghost use Rattle.svcbedit.specs.Spelling.{line_or_fault, pushes_of, spelling_of, SpellsAs};
+ghost use Rattle.svcbedit.specs.Spelling.{spelling_of};
 ghost use Rattle.svcbedit.specs.SpellingView.{spelled_view};
-ghost use Rattle.svcbedit.specs.declared.spelling.SpellError.TheVariants as errors;
 
 use crate::data_bounds::{DataBounds, data_bounds_in};
-use crate::hexadecimal::octets_in;
-use crate::lines::Lines;
 use crate::pushes::push_in;
+use command_lines::faults::{InputFault, SpellError};
+use command_lines::hexadecimal::octets_line;
+use command_lines::lines::Lines;
 use devices::MAX_INPUT;
-use std::alloc::{AllocFailed, Global};
-use std::fmt;
+use std::alloc::Global;
 use svcb_rdata::AllValues;
-use thiserror::Error;
-use wire_base::{NoMemory, Octets};
+use wire_base::Octets;
 
 /// The least limit that is too large.
 const LIMIT_END: u32 = 1 << 31;
 
 /// The number of the first line that pushes.
 const FIRST_PUSH: u64 = 3;
-
-/// A fault of form in an input.
-#[derive(Clone, Copy, Debug, PartialEq, Eq)]
-pub enum InputFault {
-    /// The line of this number, from 1 on, is missing or bad.
-    BadLine(u64),
-    /// The record data ends behind the message.
-    DataOutsideMessage,
-    /// The limit is 2,147,483,648 or more.
-    LimitTooLarge,
-}
-
-impl fmt::Display for InputFault {
-    ghost output = { λ fault. Some (fault_text fault) };
-
-    fn fmt<W: fmt::Write>(&self, f: &mut fmt::Formatter<W>) -> fmt::Result {
-        match self {
-            InputFault::BadLine(number) => write!(f, "bad line {number}"),
-            InputFault::DataOutsideMessage => write!(f, "place outside message"),
-            InputFault::LimitTooLarge => write!(f, "limit too large"),
-        }
-    }
-}
-
-impl std::error::Error for InputFault {}
-
-/// Why an input can't be read.
-#[derive(Clone, Copy, Debug, PartialEq, Eq, Error)]
-pub enum SpellError {
-    /// The input has a fault.
-    #[error(transparent)]
-    Fault(InputFault),
-    /// Allocation for what it spells failed.
-    #[error("want of memory")]
-    NoMemory,
-}
-
-impl From<InputFault> for SpellError {
-    ghost from_gives = { λ fault error. error ≡ errors.Fault fault };
-
-    fn from(fault: InputFault) -> SpellError {
-        SpellError::Fault(fault)
-    }
-}
-
-impl From<NoMemory> for SpellError {
-    ghost from_gives = { λ _ error. error ≡ errors.NoMemory };
-
-    fn from(_refused: NoMemory) -> SpellError {
-        SpellError::NoMemory
-    }
-}
-
-impl<T: Drop> From<AllocFailed<T>> for SpellError {
-    ghost from_gives = { λ _ error. error ≡ errors.NoMemory };
-
-    fn from(_refused: AllocFailed<T>) -> SpellError {
-        SpellError::NoMemory
-    }
-}
 
 /// What an input spells: a message, where record data stands in it, and the values to be pushed.
 #[derive(Drop)]
@@ -103,17 +41,6 @@ fn bounds_line(input: &mut Lines<'_>) -> Result<DataBounds, InputFault>
 {
     let line = input.next();
     line.and_then(data_bounds_in).ok_or(InputFault::BadLine(1))
-}
-
-/// Reads the next line, which has this number, as hexadecimal.
-fn octets_line(alloc: Global, input: &mut Lines<'_>, number: u64) -> Result<Octets, SpellError>
-    ensures value { SpellsAs (λ octets. octets) result
-        (line_or_fault number (option_and_then hexadecimal_octets (slice_get input.old 0))) }
-    ensures rest { input.new ≡ drop 1 input.old }
-{
-    let line = input.next().ok_or(InputFault::BadLine(number))?;
-    let octets = octets_in(alloc, line)?;
-    Ok(octets.ok_or(InputFault::BadLine(number))?)
 }
 
 /// Tests bounds in a message of so many octets, and their limit.
@@ -134,7 +61,8 @@ fn check_bounds(bounds: &DataBounds, message_len: usize) -> Result<(), InputFaul
 /// Reads the lines from the third on.
 fn push_lines(alloc: Global, mut input: Lines<'_>) -> Result<Vec<AllValues>, SpellError>
     requires { length input < 2 ^ 32 }
-    ensures { SpellsAs (λ pushes. map value_of pushes.items) result (pushes_of 3 input.entry) }
+    ensures { SpellsAs (λ pushes. map value_of pushes.items) result
+        (each_line push_of 3 input.entry) }
 {
     let mut pushes = Vec::new(alloc);
     let mut number = FIRST_PUSH;

@@ -2,24 +2,15 @@
 ghost use Rattle.std.specs.Prelude.{◌≡◌, IfOk};
 ghost use Rattle.std.specs.Option.{option_map};
 ghost use Rattle.svcb_text.specs.AllValues.{value_of};
-ghost use Rattle.svcbedit.specs.TokenPushes.{lone_token, token_push, ReadsAs};
+ghost use Rattle.command_lines.specs.Tokens.{ReadsAs};
+ghost use Rattle.svcbedit.specs.TokenPushes.{token_push};
 
-use dns_text::{Entry, EntryScanner, Scanner};
+use command_lines::tokens::lone_token;
 use std::alloc::Global;
 use svcb_rdata::AllValues;
 use svcb_text::scan_param;
 use text_spec::ScanError;
-use wire_base::{NoMemory, Octets};
-
-/// The octets of the token of a line that is an entry with exactly one.
-fn lone_token(alloc: Global, line: &[u8]) -> Result<Octets, ScanError>
-    ensures { ReadsAs (λ octets. octets) result (lone_token line.now) }
-{
-    let mut scanner = EntryScanner::new(Entry::from_text(line)?);
-    let octets = scanner.scan_octets(alloc)?;
-    scanner.check_end()?;
-    Ok(octets)
-}
+use wire_base::NoMemory;
 
 /// The value that the token of a line spells.
 fn token_value(alloc: Global, line: &[u8]) -> Result<AllValues, ScanError>

@@ -5,7 +5,7 @@ ghost use Rattle.svcbedit.specs.Words.{command_alone, only_type, type_of, number
 ghost use Rattle.svcbedit.specs.Words.{only_count, count_of, command_of};
 
 use crate::generate::MAX_PARAMS;
-use crate::numbers::number;
+use command_lines::numbers::number;
 use wire_base::Rtype;
 
 /// What the program is asked to do.

@@ -3,7 +3,7 @@ use Rattle.std.proofs.Common.{rules, ◌≡◌, IfOk, Result, sym, subst, arith}
 use Rattle.name_spec.specs.Octets.{Fault, Short, Form}
 use Rattle.record_spec.specs.RecordData.{RecordData}
 use Rattle.rdata_union.specs.Views.{data_of_all}
-use Rattle.svcbedit.specs.ReportView.{answer_view}
+use Rattle.command_lines.specs.ReportView.{answer_view}
 use Rattle.svcbedit.specs.Show.{data_shown}
 use Rattle.svcbedit.proofs.ReadWhole.{refused_read, part_read, whole_read}
 use Rattle.svcbedit.proofs.show.octets_shown.Goals as goal

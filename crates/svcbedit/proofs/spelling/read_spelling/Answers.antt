@@ -1,8 +1,8 @@
 -- An input that isn't too long has no more lines than octets, and one.
 use Rattle.std.proofs.Common.{◌≡◌, length, drop, ap, ◌∙◌, arith}
 use Rattle.std.proofs.lemmas.List.{length-drop}
-use Rattle.svcbedit.specs.Lines.{lines}
-use Rattle.svcbedit.proofs.LineLemmas.{length-lines}
+use Rattle.command_lines.specs.Lines.{lines}
+use Rattle.command_lines.proofs.LineLemmas.{length-lines}
 use Rattle.svcbedit.proofs.spelling.read_spelling.Goals as goal
 
 pub push_lines-requires : goal.push_lines-requires

@@ -1,0 +1,10 @@
+pub mod Lines
+pub mod Numbers
+pub mod Hexadecimal
+pub mod Options
+pub mod Tokens
+pub mod ExitCodes
+pub mod Report
+pub mod ReportView
+pub mod Faults
+pub mod Spelling
