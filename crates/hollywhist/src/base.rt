@@ -2,6 +2,7 @@
 
 pub mod cmp;
 pub mod iana;
+pub mod message;
 pub mod name;
 pub mod net;
 pub mod rdata;

@@ -2,6 +2,7 @@
 //! is scanned back. A caller's function calls one, and its `ensures` then stands among the facts of the function's
 //! proof. The calls do nothing when they run.
 
+pub use dns_message::laws as messages;
 pub use name_spec::laws as names;
 pub use rdata_union::laws as any_data;
 pub use record_laws::{any_type, records, text_lengths as record_text_lengths};

@@ -37,5 +37,7 @@
 #![tactic(auto)]
 
 pub mod base;
+pub mod checks;
+pub mod choosing;
 pub mod laws;
 pub mod rdata;

@@ -1,4 +1,4 @@
-//! Where to connect, as an HTTPS record says it.
+//! What a client takes from an HTTPS record beside the endpoint that was chosen.
 
 ghost use Rattle.std.specs.Prelude.{◌≡◌, option_map, IfOk};
 ghost use Rattle.hollywhist.specs.Values as values;
@@ -6,11 +6,11 @@ ghost use Rattle.hollywhist.specs.Items.{typed_at};
 
 use crate::weight::Weight;
 use hollywhist::base::net::Ipv4Addr;
+use hollywhist::rdata::svcb::Https;
 use hollywhist::rdata::svcb::value::Port;
-use hollywhist::rdata::svcb::{HttpsVariant, SvcbRef};
 use std::alloc::{AllocError, Global};
 
-/// What a client takes from a record in service mode.
+/// Where to connect, as a record in service mode says it.
 #[derive(Debug, Drop)]
 pub struct Endpoint {
     /// The port, where the record names one.
@@ -24,7 +24,7 @@ pub struct Endpoint {
 impl Endpoint {
     /// Reads the parameters, whose values are typed. A value that its type refuses counts as absent. Fails only where
     /// allocation for the addresses does.
-    pub fn new(alloc: Global, found: &SvcbRef<'_, HttpsVariant>) -> Result<Endpoint, AllocError>
+    pub fn new(alloc: Global, found: &Https) -> Result<Endpoint, AllocError>
         ensures { IfOk result (λ endpoint.
             option_map values.Port endpoint.port ≡ typed_at 3 found.now.pairs) }
     {

@@ -1,0 +1,5 @@
+//! Messages: their header, questions and records.
+
+pub use dns_message::{
+    Entries, FoundRecords, Header, Message, ParseEntry, ParsedRecord, Question, Questions, Records,
+};
