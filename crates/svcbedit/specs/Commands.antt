@@ -3,6 +3,9 @@
 use Rattle.std.specs.Prelude.{ℕ, Bool, true, false, nat_lt, if◌then◌else◌, Option, Some, None, List, [], length}
 use Rattle.std.specs.Option.{option_map}
 use Rattle.devices.specs.declared.transfer.TheConstants.{MAX_INPUT}
+use Rattle.check_commands.specs.Cds.{due_of_cds}
+use Rattle.check_commands.specs.Choose.{due_of_choose}
+use Rattle.check_commands.specs.Zonemd.{due_of_zonemd}
 use Rattle.svcbedit.specs.Edit.{due_of_edit}
 use Rattle.svcbedit.specs.Generate.{due_of_gen}
 use Rattle.command_lines.specs.Report.{Answer}
@@ -10,7 +13,7 @@ use Rattle.svcbedit.specs.Report.{no_command, too_long}
 use Rattle.svcbedit.specs.Scan.{due_of_scan}
 use Rattle.svcbedit.specs.Show.{due_of_show}
 use Rattle.svcbedit.specs.declared.words.Command.{Command}
-use Rattle.svcbedit.specs.declared.words.Command.TheVariants.{Edit, Show, Scan, Gen}
+use Rattle.svcbedit.specs.declared.words.Command.TheVariants.{Edit, Show, Scan, Gen, Choose, Cds, Zonemd}
 
 -- the answer of a command to an input that isn't too long
 unfoldable pub answer_of : Command → List ℕ → Answer
@@ -18,6 +21,9 @@ answer_of Edit input = due_of_edit input
 answer_of (Show rtype) input = due_of_show rtype input
 answer_of (Scan rtype) input = due_of_scan rtype input
 answer_of (Gen count) input = due_of_gen count
+answer_of Choose input = due_of_choose input
+answer_of Cds input = due_of_cds input
+answer_of Zonemd input = due_of_zonemd input
 
 -- the command reads the input; one that doesn't is given an empty one
 unfoldable pub is_reading : Command → Bool
@@ -25,6 +31,9 @@ is_reading Edit = true
 is_reading (Show rtype) = true
 is_reading (Scan rtype) = true
 is_reading (Gen count) = false
+is_reading Choose = true
+is_reading Cds = true
+is_reading Zonemd = true
 
 -- the answer of a command to an input
 abbrev pub answer_to : Command → List ℕ → Answer

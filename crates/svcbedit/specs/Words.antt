@@ -7,7 +7,7 @@ use Rattle.command_lines.specs.Numbers.{decimal_number, max_u16}
 use Rattle.command_lines.specs.Options.{◌>>=◌}
 use Rattle.svcbedit.specs.declared.generate.TheConstants.{MAX_PARAMS}
 use Rattle.svcbedit.specs.declared.words.Command.{Command}
-use Rattle.svcbedit.specs.declared.words.Command.TheVariants.{Edit, Show, Scan, Gen}
+use Rattle.svcbedit.specs.declared.words.Command.TheVariants.{Edit, Show, Scan, Gen, Choose, Cds, Zonemd}
 
 -- a command, where no word follows its name
 abbrev pub command_alone : Command → List (List ℕ) → Option Command
@@ -64,6 +64,9 @@ command_named name more =
     else if bytes_eq name (codes "show") then option_map Show (only_type more)
     else if bytes_eq name (codes "scan") then option_map Scan (only_type more)
     else if bytes_eq name (codes "gen") then option_map Gen (only_count more)
+    else if bytes_eq name (codes "choose") then command_alone Choose more
+    else if bytes_eq name (codes "cds") then command_alone Cds more
+    else if bytes_eq name (codes "zonemd") then command_alone Zonemd more
     else None
 
 -- the command that the texts of the words name

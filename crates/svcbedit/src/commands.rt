@@ -8,6 +8,7 @@ use crate::generate::gen_answer;
 use crate::scan::scan_answer;
 use crate::show::show_answer;
 use crate::words::Command;
+use check_commands::{cds_answer, choose_answer, zonemd_answer};
 use command_lines::report::{Answer, Outcome, text_answer};
 use devices::MAX_INPUT;
 use std::alloc::Global;
@@ -26,5 +27,8 @@ pub fn command_answer(alloc: Global, command: Command, input: &[u8]) -> Result<A
         Command::Show(rtype) => show_answer(alloc, rtype, input),
         Command::Scan(rtype) => scan_answer(alloc, rtype, input),
         Command::Gen(count) => gen_answer(alloc, count),
+        Command::Choose => choose_answer(alloc, input),
+        Command::Cds => cds_answer(alloc, input),
+        Command::Zonemd => zonemd_answer(alloc, input),
     }
 }

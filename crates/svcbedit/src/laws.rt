@@ -1,10 +1,16 @@
-//! Laws of the commands, each proved for all arguments. The functions do nothing when they run.
+//! Laws of the commands, each proved for all arguments. But for `sure_run`, the functions do nothing when they run.
 
+ghost use Rattle.std.specs.Prelude.{◌≢◌};
+ghost use Rattle.command_lines.specs.ExitCodes.{exit_code};
+ghost use Rattle.command_lines.specs.declared.exit_status.ExitStatus.TheVariants as exit;
 ghost use Rattle.svcbedit.specs.Laws.{TypesAreScannedBack, AllDataBack, GenIsDone};
 
+use crate::run::run;
+use devices::{SureSink, SureSource};
 use record_laws::any_type::union_text_read_back;
 use record_laws::records::{fields_composed_back, ipseckey_composed_back};
 use record_laws::text_lengths as lengths;
+use std::alloc::Global;
 use svcb_laws::data_texts::read_is_data;
 use svcb_laws::text_lengths::data_line_fits;
 use svcb_spec::laws::record_read_back;
@@ -37,4 +43,17 @@ pub fn gen_is_done()
     ensures { GenIsDone }
 {
     record_read_back();
+}
+
+/// Runs the program over devices that never fail, so that it never ends with the status of one that did.
+pub fn sure_run(
+    alloc: Global,
+    words: &[String],
+    source: &mut SureSource<'_>,
+    sink: &mut SureSink,
+) -> u8
+    ensures no_read_fault { result ≢ exit_code exit.ReadFault }
+    ensures no_write_fault { result ≢ exit_code exit.WriteFault }
+{
+    run(alloc, words, source, sink)
 }

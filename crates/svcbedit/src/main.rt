@@ -10,8 +10,14 @@ use run::run;
 use std::process::ExitCode;
 use std::{env, io};
 
+#[cfg(test)]
+mod cds_tests;
+#[cfg(test)]
+mod choose_tests;
 mod commands;
 mod data_bounds;
+#[cfg(test)]
+mod device_tests;
 mod edit;
 mod generate;
 pub mod laws;
@@ -32,6 +38,8 @@ mod token_pushes;
 #[cfg(test)]
 mod type_tests;
 mod words;
+#[cfg(test)]
+mod zone_tests;
 
 /// The words after the program's name.
 fn given_words(rt: &HostRuntime) -> io::Result<Vec<String>> {

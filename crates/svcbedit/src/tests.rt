@@ -53,6 +53,21 @@ pub fn ends_with(
     Ok(ended.status == status && ended.report.as_slice() == report.as_bytes())
 }
 
+/// The first input on which a command line doesn't end with this status and write its lines.
+pub fn first_other<'a>(
+    rt: &HostRuntime,
+    line: &str,
+    status: u8,
+    rows: &[(&'a str, &str)],
+) -> Result<Option<&'a str>, Fail> {
+    for (input, written) in rows {
+        if !ends_with(rt, line, input, status, written)? {
+            return Ok(Some(input));
+        }
+    }
+    Ok(None)
+}
+
 #[test]
 fn rebuilds(rt: HostRuntime) -> Result<(), Fail> {
     for (input, report) in [
@@ -218,6 +233,12 @@ fn refuses_words(rt: HostRuntime) -> Result<(), Fail> {
         "gen 8001",
         "gen 00001",
         "gen +1",
+        "choose x",
+        "Choose",
+        "cds -",
+        "CDS",
+        "zonemd example.",
+        "check",
     ] {
         let ended = run_on(&rt, line, "0 3 0\n000100\n", &[], &[])?;
         assert_eq!(rt; ended.status, 1, "of {line}");

@@ -19,6 +19,12 @@ pub enum Command {
     Scan(Rtype),
     /// Makes record data of so many parameters, and rebuilds it.
     Gen(u16),
+    /// Chooses the endpoints of an owner's SVCB records.
+    Choose,
+    /// Checks CDS against CDNSKEY records.
+    Cds,
+    /// Checks a zone against its ZONEMD record.
+    Zonemd,
 }
 
 impl Command {
@@ -28,8 +34,9 @@ impl Command {
         ensures { result ≡ is_reading self }
     {
         match self {
-            Command::Edit | Command::Show(_) | Command::Scan(_) => true,
             Command::Gen(_) => false,
+            Command::Edit | Command::Show(_) | Command::Scan(_) => true,
+            Command::Choose | Command::Cds | Command::Zonemd => true,
         }
     }
 }
@@ -125,6 +132,9 @@ pub fn command_in(words: &[String]) -> Option<Command>
         "show" => Some(Command::Show(only_type_in(more)?)),
         "scan" => Some(Command::Scan(only_type_in(more)?)),
         "gen" => Some(Command::Gen(only_count_in(more)?)),
+        "choose" => alone_in(Command::Choose, more),
+        "cds" => alone_in(Command::Cds, more),
+        "zonemd" => alone_in(Command::Zonemd, more),
         _ => None,
     }
 }
