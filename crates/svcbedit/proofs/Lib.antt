@@ -1,3 +1,4 @@
+pub mod Complete
 pub mod ReadData
 pub mod ReadWhole
 pub mod Back
