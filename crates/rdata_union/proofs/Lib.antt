@@ -1,1 +1,2 @@
 mod ReadingAnswers
+pub mod FieldOrders
