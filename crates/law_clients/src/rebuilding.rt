@@ -10,8 +10,8 @@ use hollywhist::rdata::svcb::value::{AllValues, Port};
 use hollywhist::rdata::svcb::{RebuildError, Reply, SvcbRef, SvcbVariant, rebuild_svcb};
 use std::alloc::Global;
 
-/// Record data with a port pushed: the reply, and the port that is read from the rebuilt data, which is the one that was
-/// pushed where it was accepted.
+/// Record data with a port pushed: the reply, and the port that is read from the rebuilt data, which is the one that
+/// was pushed where it was accepted.
 pub fn pushed_port(
     alloc: Global,
     message: &[u8],

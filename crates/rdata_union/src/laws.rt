@@ -110,8 +110,8 @@ pub fn cmp_is_canonical<F: AssociationFields>(
 )
     ensures { fields_cmp (data_of F.numbers found.now) (data_of F.numbers other.now)
         ≡ canonical_order
-            F.definition.rtype (data_wire F.definition (data_of F.numbers found.now))
-            F.definition.rtype (data_wire F.definition (data_of F.numbers other.now)) }
+        F.definition.rtype (data_wire F.definition (data_of F.numbers found.now))
+        F.definition.rtype (data_wire F.definition (data_of F.numbers other.now)) }
 {
     fields_are_data(found);
     fields_are_data(other);
