@@ -1,2 +1,2 @@
 mod ReadingAnswers
-pub mod FieldOrders
+mod FieldOrders

@@ -103,7 +103,6 @@ fn are_octets(octets: &[u8])
 
 /// Data of the six types of numbers and a last field is compared in canonical order (RFC 4034, section 6.3): `cmp`
 /// answers what `canonical_cmp` does.
-#[tactic(auto, using(crate::proofs::FieldOrders::fields_in_order))]
 pub fn cmp_is_canonical<F: AssociationFields>(
     found: &AssociationData<F>,
     other: &AssociationData<F>,
