@@ -6,9 +6,8 @@ ghost use Rattle.hollywhist.specs.Views.{cds_of};
 use crate::entries::scanner_of;
 use hollywhist::base::scan::ScanError;
 use hollywhist::base::zonefile_fmt::{DisplayKind, display_zonefile};
-use hollywhist::laws::any_data::fields_are_data;
+use hollywhist::laws::any_data::{fields_are_data, fields_scanned_back};
 use hollywhist::laws::data_texts::data_layout_read_back;
-use hollywhist::laws::records::{fields_layout_read_back, types_are_rows};
 use hollywhist::laws::svcb_data::made_of_octets;
 use hollywhist::rdata::Cds;
 use hollywhist::rdata::svcb::{SvcVariant, SvcbRdata};
@@ -21,8 +20,7 @@ pub fn cds_read_back(alloc: Global, found: &Cds, kind: DisplayKind) -> Result<Cd
     ensures only { IfErr result (λ fault. fault ≡ ScanError.NoMemory) }
 {
     fields_are_data(found);
-    types_are_rows();
-    fields_layout_read_back();
+    fields_scanned_back(found);
     let text = display_zonefile(alloc, found, kind)?;
     Cds::scan(alloc, &mut scanner_of(text.as_slice()))
 }

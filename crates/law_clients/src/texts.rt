@@ -9,13 +9,13 @@ use crate::entries::scanner_of;
 use hollywhist::base::rdata::RecordData;
 use hollywhist::base::scan::{ScanError, scan_a};
 use hollywhist::laws::any_data::{
-    fields_are_data, ipseckey_is_data, ipv4_is_address, zone_is_data,
+    fields_are_data, fields_scanned_back, ipseckey_is_data, ipv4_is_address, zone_is_data,
 };
 use hollywhist::laws::any_type::union_text_read_back;
 use hollywhist::laws::data_texts::data_text_read_back;
 use hollywhist::laws::entry_texts::{ipv4_token_text, token_is_entry, tokens_read};
 use hollywhist::laws::names;
-use hollywhist::laws::records::{fields_text_read_back, ipseckey_text_read_back, types_are_rows};
+use hollywhist::laws::records::ipseckey_text_read_back;
 use hollywhist::laws::svcb_data::made_of_octets;
 use hollywhist::rdata::svcb::{SvcVariant, SvcbRdata};
 use hollywhist::rdata::{A, Cds, Ipseckey, ZoneRecordData};
@@ -42,8 +42,7 @@ pub fn cds_read_back(alloc: Global, found: &Cds) -> Result<Cds, ScanError>
     ensures only { IfErr result (λ fault. fault ≡ ScanError.NoMemory) }
 {
     fields_are_data(found);
-    types_are_rows();
-    fields_text_read_back();
+    fields_scanned_back(found);
     let text = format!(in alloc; "{found}")?;
     Cds::scan(alloc, &mut scanner_of(text.as_bytes()))
 }

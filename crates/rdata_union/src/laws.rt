@@ -4,10 +4,15 @@
 ghost use Rattle.std.specs.Prelude.{◌≡◌, ◌≤◌, length};
 ghost use Rattle.name_spec.specs.AddressLaws.{AreOctets};
 ghost use Rattle.name_spec.specs.CanonicalOrder.{canonical_order};
+ghost use Rattle.text_spec.specs.declared.display_kind.DisplayKind.{DisplayKind};
+ghost use Rattle.text_spec.specs.Layouts.{laid_out_text};
 ghost use Rattle.record_spec.specs.Rows.{IsAssociationData};
+ghost use Rattle.record_spec.specs.Texts.{scan_data, fields_printed};
+ghost use Rattle.record_spec.specs.Documents.{data_document};
 ghost use Rattle.record_spec.specs.Wire.{data_wire};
 ghost use Rattle.record_spec.specs.Comparing.{fields_cmp};
 ghost use Rattle.record_spec.specs.Ipseckeys.{IsAddress, IsIpseckey};
+ghost use Rattle.record_laws.specs.RecordLaws.{IsScannedAs};
 ghost use Rattle.record_laws.specs.UnionLaws.{IsUnionData, IsKeyed};
 ghost use Rattle.digest_rdata.specs.FieldsView.{data_of};
 ghost use Rattle.rdata_union.specs.Views.{data_of_all, data_of_zone, data_of_ref};
@@ -17,6 +22,7 @@ use crate::data_ref::RecordDataRef;
 use crate::zone_data::ZoneRecordData;
 use digest_rdata::{AssociationData, AssociationFields};
 use key_rdata::Ipseckey;
+use record_laws::records::{fields_layout_read_back, fields_text_read_back};
 use svcb_rdata::laws::made_of_octets;
 use wire_base::ComposeRecordData;
 use wire_records::{A, Aaaa, UnknownRecordData};
@@ -76,6 +82,20 @@ pub fn fields_are_data<F: AssociationFields>(found: &AssociationData<F>)
     ensures { IsAssociationData F.definition (data_of F.numbers found.now) }
 {
     let _len = found.rdlen(false);
+}
+
+/// The text and each layout of such data have tokens, which are scanned as that data: the laws `fields_text_read_back`
+/// and `fields_layout_read_back` at these values.
+pub fn fields_scanned_back<F: AssociationFields>(found: &AssociationData<F>)
+    ensures text { IsScannedAs (scan_data F.definition)
+        (fields_printed F.definition (data_of F.numbers found.now)) (data_of F.numbers found.now) }
+    ensures layout { (kind : DisplayKind) → IsScannedAs (scan_data F.definition)
+        (laid_out_text kind (data_document F.definition (data_of F.numbers found.now)))
+        (data_of F.numbers found.now) }
+{
+    fields_are_data(found);
+    fields_text_read_back();
+    fields_layout_read_back();
 }
 
 /// The data of an IPSECKEY record is of its type, with its key or without.
