@@ -1,6 +1,8 @@
 //! Records that are kept as text.
 
-ghost use Rattle.std.specs.Prelude.{◌≡◌, IfOk, IfErr};
+ghost use Rattle.std.specs.Prelude.{◌≡◌, List, IfOk, IfErr};
+ghost use Rattle.text_spec.specs.declared.lexeme.Symbol.{Symbol};
+ghost use Rattle.text_spec.specs.Pieces.{HasTokens};
 
 use hollywhist::base::scan::{Entry, EntryScanner, ScanError};
 use hollywhist::laws::data_texts::data_text_read_back;
@@ -18,6 +20,17 @@ pub fn there_and_back(alloc: Global, record: &Https) -> Result<Https, ScanError>
     made_of_octets(record);
     data_text_read_back();
     let text = format!(in alloc; "{record}")?;
-    let entry = Entry::from_text(text.as_bytes())?;
-    Https::scan(alloc, &mut EntryScanner::new(entry))
+    Https::scan(alloc, &mut scanner_of(text.as_bytes()))
+}
+
+/// A scanner of the tokens of a text that has some, so that it isn't refused.
+fn scanner_of(text: &[u8]) -> EntryScanner<'_>
+    requires { (tokens : List (List Symbol)) × HasTokens text.now tokens }
+    ensures tokens { HasTokens text.now result.tokens }
+    ensures taken { result.taken ≡ 0 }
+{
+    match Entry::from_text(text) {
+        Ok(entry) => EntryScanner::new(entry),
+        Err(_) => unreachable!(),
+    }
 }
