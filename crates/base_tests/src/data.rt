@@ -1,10 +1,11 @@
 //! The texts of addresses, and of data of any type (RFC 3597, section 5; RFC 4291, section 2.2; RFC 5952).
 
+use crate::printed::is_printed;
 use dns_text::{Entry, EntryScanner, Scanner, scan_a, scan_aaaa, scan_unknown};
 use std::alloc::Global;
 use text_spec::ScanError;
 use wire_base::{Ipv4Addr, Ipv6Addr, Octets, Rtype};
-use wire_records::UnknownRecordData;
+use wire_records::{A, Aaaa, Base16, Serial, UnknownRecordData};
 
 /// The octets of the one IPv4 address of a text.
 fn scan_ipv4(alloc: Global, text: &[u8]) -> Result<[u8; 4], ScanError> {
@@ -93,21 +94,25 @@ fn ipv6_addresses_are_scanned(rt: HostRuntime) {
 }
 
 #[test]
-fn ipv6_addresses_are_printed(rt: HostRuntime) -> Result<(), std::test::Fail> {
+fn ipv6_addresses_are_printed(rt: HostRuntime) {
     for (_text, octets, printed) in &IPV6 {
         let address = Ipv6Addr::new(**octets);
-        let text = format!(in rt.alloc(); "{address}")?;
-        assert!(rt; text.as_str() == *printed);
+        assert!(rt;
+            is_printed(rt.alloc(), &address, printed) == Ok(true),
+            "{printed}"
+        );
+        assert!(rt;
+            is_printed(rt.alloc(), &Aaaa::new(address), printed) == Ok(true),
+            "{printed}"
+        );
     }
-    Ok(())
 }
 
 #[test]
-fn ipv4_addresses_are_printed(rt: HostRuntime) -> Result<(), std::test::Fail> {
+fn ipv4_addresses_are_printed(rt: HostRuntime) {
     let address = Ipv4Addr::new([192, 0, 2, 1]);
-    let text = format!(in rt.alloc(); "{address}")?;
-    assert!(rt; text.as_str() == "192.0.2.1");
-    Ok(())
+    assert!(rt; is_printed(rt.alloc(), &address, "192.0.2.1") == Ok(true));
+    assert!(rt; is_printed(rt.alloc(), &A::new(address), "192.0.2.1") == Ok(true));
 }
 
 /// Texts that are no IPv6 addresses.
@@ -167,20 +172,28 @@ fn data_of_any_type_is_scanned(rt: HostRuntime) {
     }
 }
 
-/// The text of data of type 999.
-fn print_any(alloc: Global, octets: &[u8]) -> Result<String, ScanError> {
+/// Whether data of type 999 is printed so.
+fn is_any_printed(alloc: Global, octets: &[u8], text: &str) -> Result<bool, ScanError> {
     let octets = Octets::from_slice(alloc, octets)?;
     let Ok(data) = UnknownRecordData::new(Rtype::from_int(999), octets) else {
         return Err(ScanError::LongRecord);
     };
-    let text = format!(in alloc; "{data}")?;
-    Ok(text)
+    Ok(is_printed(alloc, &data, text)?)
 }
 
 #[test]
 fn data_of_any_type_is_printed(rt: HostRuntime) {
-    let some = print_any(rt.alloc(), b"\x0a\x0b\xfc");
-    assert!(rt; matches!(&some, Ok(text) if text.as_str() == "\\# 3 0A0BFC"));
-    let none = print_any(rt.alloc(), b"");
-    assert!(rt; matches!(&none, Ok(text) if text.as_str() == "\\# 0"));
+    assert!(rt; is_any_printed(rt.alloc(), b"\x0a\x0b\xfc", "\\# 3 0A0BFC") == Ok(true));
+    assert!(rt; is_any_printed(rt.alloc(), b"", "\\# 0") == Ok(true));
+}
+
+#[test]
+fn octets_and_serials_are_printed(rt: HostRuntime) {
+    let octets: &[u8] = b"\x0a\xfc";
+    for (is_upper, text) in [(true, "0AFC"), (false, "0afc")] {
+        let digits = Base16 { octets, is_upper };
+        assert!(rt; is_printed(rt.alloc(), &digits, text) == Ok(true), "{text}");
+    }
+    let serial = Serial::from_int(4_294_967_295);
+    assert!(rt; is_printed(rt.alloc(), &serial, "4294967295") == Ok(true));
 }

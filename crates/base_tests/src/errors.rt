@@ -1,5 +1,6 @@
 //! The texts of errors of scanning.
 
+use crate::printed::is_printed;
 use text_spec::ScanError;
 
 /// Each error and its text.
@@ -41,7 +42,6 @@ const TEXTS: [(ScanError, &str); 32] = [
 #[test]
 fn errors_have_their_texts(rt: HostRuntime) {
     for (error, text) in &TEXTS {
-        let printed = format!(in rt.alloc(); "{error}");
-        assert!(rt; matches!(&printed, Ok(printed) if printed.as_str() == *text));
+        assert!(rt; is_printed(rt.alloc(), error, text) == Ok(true), "{text}");
     }
 }

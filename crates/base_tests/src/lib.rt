@@ -28,6 +28,8 @@ mod own_scanner;
 #[cfg(test)]
 mod parsers;
 #[cfg(test)]
+mod printed;
+#[cfg(test)]
 mod record_texts;
 #[cfg(test)]
 mod refused_scans;

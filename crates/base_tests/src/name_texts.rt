@@ -1,5 +1,6 @@
 //! The texts of names and of octets (RFC 1035, section 5.1).
 
+use crate::printed::is_printed;
 use dns_text::{Entry, EntryScanner, Scanner};
 use std::alloc::Global;
 use text_spec::ScanError;
@@ -78,16 +79,16 @@ fn names_have_at_most_255_octets(rt: HostRuntime) {
     assert!(rt; long_name(rt.alloc(), 62) == Err(ScanError::BadName));
 }
 
-/// The texts of a name, without and with its final dot.
-fn print_name(alloc: Global, wire: &[u8]) -> Result<(String, String), ParseError> {
+/// Whether a name is printed so, without and with its final dot.
+fn is_name_printed(
+    alloc: Global,
+    wire: &[u8],
+    text: &str,
+    dotted: &str,
+) -> Result<bool, ParseError> {
     let name = Name::from_octets(Octets::from_slice(alloc, wire)?)?;
-    let Ok(text) = format!(in alloc; "{name}") else {
-        return Err(ParseError::NoMemory);
-    };
-    let Ok(dotted) = format!(in alloc; "{}", name.fmt_with_dot()) else {
-        return Err(ParseError::NoMemory);
-    };
-    Ok((text, dotted))
+    let with_dot = name.fmt_with_dot();
+    Ok(is_printed(alloc, &name, text)? && is_printed(alloc, &with_dot, dotted)?)
 }
 
 /// Names in wire form, and their texts without and with the final dot.
@@ -105,18 +106,16 @@ const PRINTED: [(&[u8], &str, &str); 4] = [
 #[test]
 fn names_are_printed(rt: HostRuntime) {
     for (wire, text, dotted) in &PRINTED {
-        let found = print_name(rt.alloc(), wire);
         assert!(rt;
-            matches!(&found, Ok(texts)
-            if texts.0.as_str() == *text && texts.1.as_str() == *dotted)
+            is_name_printed(rt.alloc(), wire, text, dotted) == Ok(true),
+            "{text}"
         );
     }
 }
 
 #[test]
-fn octets_are_printed(rt: HostRuntime) -> Result<(), std::test::Fail> {
+fn octets_are_printed(rt: HostRuntime) {
     let octets = PrintedOctets::new(b"hello\xd2qoo \\.\t\x7f~");
-    let text = format!(in rt.alloc(); "{octets}")?;
-    assert!(rt; text.as_str() == "hello\\210qoo\\ \\\\.\\009\\127~");
-    Ok(())
+    let text = "hello\\210qoo\\ \\\\.\\009\\127~";
+    assert!(rt; is_printed(rt.alloc(), &octets, text) == Ok(true));
 }

@@ -1,1 +1,2 @@
 mod ReadingAnswers
+mod FieldOrders

@@ -1,8 +1,10 @@
 //! Data of the records of a zone.
 
 ghost use Rattle.std.specs.Prelude.{◌≡◌, IfOk};
-ghost use Rattle.text_spec.specs.Scanning.{Scans, ScansPart};
-ghost use Rattle.record_spec.specs.UnionTexts.{scan_fields, scan_any, union_scan};
+ghost use Rattle.text_spec.specs.Scanning.{Scan, Scans, ScansPart};
+ghost use Rattle.text_spec.specs.ReadingBack.{ReadsBack};
+ghost use Rattle.record_spec.specs.UnionTexts.{scan_fields, scan_any, union_scan, union_printed};
+ghost use Rattle.record_laws.specs.UnionLaws.{IsDataUnder};
 ghost use Rattle.rdata_union.specs.Views.{data_of_zone, data_of_ref};
 
 use crate::data_ref::RecordDataRef;
@@ -77,13 +79,19 @@ impl ZoneRecordData {
     /// - `UnknownType`: there is no marker, and there is no type of data under that number. The scanner is unchanged.
     /// - `TrailingTokens`: a token is left behind the data. The scanner stands before it.
     /// - `NoMemory`: allocation failed. The scanner is where it was before the call.
+    ///
+    /// The tokens of the printed text of data are scanned under the number of its type as that data, or allocation
+    /// fails. IPSECKEY data whose key is missing is left out.
+    #[tactic(auto, using(record_laws::proofs::ReadingBack::union_read_back))]
     pub fn scan<S: Scanner>(
         alloc: Global,
         rtype: Rtype,
         scanner: &mut S,
     ) -> Result<ZoneRecordData, ScanError>
-        ensures { Scans data_of_zone (union_scan rtype)
+        ensures scans { Scans data_of_zone (union_scan rtype)
             (S.scan scanner.old) (S.scan scanner.new) result }
+        ensures read_back { ReadsBack data_of_zone (IsDataUnder rtype) union_printed
+            (S.scan scanner.old) result }
     {
         let place = scanner.taken();
         let outcome = scan_whole(alloc, rtype, scanner);

@@ -1,10 +1,14 @@
 //! Constructors, readers, equality and order of record data.
 
-use digest_rdata::{Cds, Sshfp, Zonemd};
+use crate::printed::is_printed;
+use digest_rdata::{
+    Cds, CdsFields, EncodedOctets, OpenpgpkeyFields, Sshfp, SshfpFields, Zonemd, ZonemdFields,
+};
 use key_rdata::{Cdnskey, Openpgpkey};
 use key_registry::{
     DigestAlgorithm, SecurityAlgorithm, SshfpAlgorithm, SshfpType, ZonemdAlgorithm, ZonemdScheme,
 };
+use record_spec::Encoding;
 use std::alloc::Global;
 use std::cmp::Ordering;
 use wire_base::{CanonicalOrd, NoMemory, Octets};
@@ -84,6 +88,45 @@ fn readers_give_the_fields(rt: HostRuntime) {
 fn a_serial_is_its_number(rt: HostRuntime) {
     let serial = Serial::from_int(4294967295);
     assert!(rt; serial.into_int() == 4294967295);
-    let text = format!(in rt.alloc(); "{serial}");
-    assert!(rt; matches!(&text, Ok(text) if text.as_str() == "4294967295"));
+    assert!(rt; is_printed(rt.alloc(), &serial, "4294967295") == Ok(true));
+}
+
+#[test]
+fn fields_are_printed(rt: HostRuntime) {
+    let cds = CdsFields {
+        key_tag: 60485,
+        algorithm: SecurityAlgorithm::RSASHA1,
+        digest_type: DigestAlgorithm::SHA1,
+    };
+    assert!(rt; is_printed(rt.alloc(), &cds, "60485 5 1 ") == Ok(true));
+    let sshfp = SshfpFields {
+        algorithm: SshfpAlgorithm::DSA,
+        fingerprint_type: SshfpType::SHA1,
+    };
+    assert!(rt; is_printed(rt.alloc(), &sshfp, "2 1 ") == Ok(true));
+    let zonemd = ZonemdFields {
+        serial: Serial::from_int(2018031900),
+        scheme: ZonemdScheme::SIMPLE,
+        algorithm: ZonemdAlgorithm::SHA384,
+    };
+    assert!(rt; is_printed(rt.alloc(), &zonemd, "2018031900 1 1 ") == Ok(true));
+    assert!(rt; is_printed(rt.alloc(), &OpenpgpkeyFields, "") == Ok(true));
+}
+
+#[test]
+fn last_fields_are_printed(rt: HostRuntime) {
+    for (encoding, in_brackets, text) in [
+        (Encoding::Base16, false, "6b6579"),
+        (Encoding::Base16, true, "( 6B6579 )"),
+        (Encoding::Base64, false, "a2V5"),
+        (Encoding::Base64, true, "( a2V5 )"),
+    ] {
+        let octets: &[u8] = b"key";
+        let last = EncodedOctets {
+            octets,
+            encoding,
+            in_brackets,
+        };
+        assert!(rt; is_printed(rt.alloc(), &last, text) == Ok(true), "{text}");
+    }
 }

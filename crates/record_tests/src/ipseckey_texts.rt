@@ -1,5 +1,6 @@
 //! IPSECKEY data as text (RFC 4025, section 3).
 
+use crate::printed::is_printed;
 use dns_text::{Entry, EntryScanner, Scanner, display_zonefile};
 use key_rdata::{Ipseckey, IpseckeyGateway};
 use key_registry::IpseckeyGatewayType;
@@ -43,17 +44,17 @@ const PRINTED: [(&[u8], &str); 7] = [
 ];
 
 /// Whether a text's data is printed so, and that text is scanned as the same data.
-fn is_printed(alloc: Global, text: &[u8], printed: &str) -> Result<bool, ScanError> {
+fn is_scanned(alloc: Global, text: &[u8], printed: &str) -> Result<bool, ScanError> {
     let found = scanned(alloc, text)?;
     let shown = format!(in alloc; "{found}")?;
     let again = scanned(alloc, shown.as_bytes())?;
-    Ok(shown.as_str() == printed && found == again)
+    Ok(is_printed(alloc, &found, printed)? && found == again)
 }
 
 #[test]
 fn texts_are_scanned_and_printed(rt: HostRuntime) {
     for (text, printed) in &PRINTED {
-        assert!(rt; is_printed(rt.alloc(), text, printed) == Ok(true));
+        assert!(rt; is_scanned(rt.alloc(), text, printed) == Ok(true));
     }
 }
 
@@ -127,26 +128,21 @@ fn refusals_have_their_place(rt: HostRuntime) {
     assert!(rt; place_of_refusal(rt.alloc(), b"10 0 2 .") == Ok(Some(4)));
 }
 
-/// The gateway of a type that a token is, as it is printed.
-fn gateway_text(alloc: Global, number: u8, text: &[u8]) -> Result<String, ScanError> {
+/// Whether the gateway of a type that a token is has this text.
+fn is_gateway(alloc: Global, number: u8, text: &[u8], printed: &str) -> Result<bool, ScanError> {
     let gateway_type = IpseckeyGatewayType::from(number);
     let mut scanner = EntryScanner::new(Entry::from_text(text)?);
     let gateway = IpseckeyGateway::scan(alloc, &mut scanner, gateway_type)?;
-    Ok(format!(in alloc; "{gateway}")?)
+    Ok(is_printed(alloc, &gateway, printed)?)
 }
 
 #[test]
 fn gateways_are_scanned_and_printed(rt: HostRuntime) {
-    let name = gateway_text(rt.alloc(), 3, b"My.Gateway");
-    assert!(rt; matches!(&name, Ok(text) if text.as_str() == "My.Gateway."));
-    let dot = gateway_text(rt.alloc(), 0, b".");
-    assert!(rt; matches!(&dot, Ok(text) if text.as_str() == "."));
-    assert!(rt;
-        matches!(
-            gateway_text(rt.alloc(), 9, b"."),
-            Err(ScanError::UnknownGateway)
-        )
-    );
+    assert!(rt; is_gateway(rt.alloc(), 0, b".", ".") == Ok(true));
+    assert!(rt; is_gateway(rt.alloc(), 1, b"192.0.2.1", "192.0.2.1") == Ok(true));
+    assert!(rt; is_gateway(rt.alloc(), 2, b"2001:DB8::1", "2001:db8::1") == Ok(true));
+    assert!(rt; is_gateway(rt.alloc(), 3, b"My.Gateway", "My.Gateway.") == Ok(true));
+    assert!(rt; is_gateway(rt.alloc(), 9, b".", ".") == Err(ScanError::UnknownGateway));
 }
 
 /// Whether the data of a text is laid out so.

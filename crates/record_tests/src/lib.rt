@@ -17,6 +17,8 @@ mod layouts;
 #[cfg(test)]
 mod limits;
 #[cfg(test)]
+mod printed;
+#[cfg(test)]
 mod record_copies;
 #[cfg(test)]
 mod union_copies;

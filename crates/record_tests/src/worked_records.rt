@@ -1,5 +1,6 @@
 //! Record data in octets, as text and laid out.
 
+use crate::printed::is_printed;
 use digest_rdata::{
     AssociationData, AssociationFields, Cds, CdsFields, SshfpFields, TlsaFields, ZonemdFields,
 };
@@ -87,7 +88,7 @@ fn is_scanned<F: AssociationFields>(alloc: Global, row: &Row) -> Result<bool, Sc
     let multiline = display_zonefile(alloc, &found, DisplayKind::Multiline)?;
     let (first, second) = target.as_slice().split_at(target.len() / 2);
     Ok(
-        printed.as_str() == row.printed
+        is_printed(alloc, &found, row.printed)?
             && first == row.octets
             && second == row.octets
             && found == again

@@ -1,5 +1,6 @@
 //! A row for each type: its text, its octets and what is printed.
 
+use crate::printed::is_printed;
 use dns_text::{Entry, EntryScanner, ZonefileFmt, display_zonefile};
 use rdata_union::{AllRecordData, ZoneRecordData};
 use std::alloc::Global;
@@ -143,7 +144,7 @@ fn is_scanned<D: ScannedData>(alloc: Global, row: &Row) -> Result<bool, ScanErro
     let again: D = scanned(alloc, row.rtype, printed.as_bytes())?;
     Ok(
         has_octets(alloc, &found, row)?
-            && printed.as_str() == row.printed
+            && is_printed(alloc, &found, row.printed)?
             && simple.as_slice() == row.simple
             && found == again,
     )
@@ -204,8 +205,9 @@ fn is_read(alloc: Global, row: &Row) -> Result<bool, ParseError> {
         Some(number) => number == row.rtype,
         None => is_unknown,
     };
+    let is_shown = is_printed(alloc, &found, row.printed)?;
     let zone = found.into_zone_data();
-    Ok(is_variant && parser.remaining() == 0 && is_same(alloc, &zone, row)?)
+    Ok(is_variant && is_shown && parser.remaining() == 0 && is_same(alloc, &zone, row)?)
 }
 
 /// Whether all octets are read so.

@@ -1,5 +1,6 @@
 //! The answer to an HTTPS query.
 
+use crate::cache::there_and_back;
 use anyhow::{Context, Result, bail};
 use hollywhist::base::iana::Rtype;
 use hollywhist::base::message::Message;
@@ -15,7 +16,8 @@ pub fn asked_name(alloc: Global, message: &Message<'_>) -> Result<Name> {
     Ok(question.qname().to_name(alloc)?)
 }
 
-/// The HTTPS records of an owner in an answer, by ascending priorities; records of one priority as they stand.
+/// The HTTPS records of an owner in an answer, kept as text and read again, by ascending priorities; records of one
+/// priority as they stand.
 pub fn https_records(alloc: Global, message: &Message<'_>, owner: &Name) -> Result<Vec<Https>> {
     let mut records = Vec::new(alloc);
     let mut found = message
@@ -26,7 +28,7 @@ pub fn https_records(alloc: Global, message: &Message<'_>, owner: &Name) -> Resu
             bail!("a record that can't be read");
         };
         let https = Https::parse(alloc, &mut record.parser()).context("reading a record")?;
-        records.push(https)?;
+        records.push(there_and_back(alloc, &https).context("keeping a record")?)?;
     }
     records.sort_by_key(|found| found.priority())?;
     Ok(records)

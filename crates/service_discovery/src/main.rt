@@ -3,6 +3,7 @@
 #![tactic(auto)]
 
 mod answer;
+mod cache;
 mod endpoint;
 mod weight;
 

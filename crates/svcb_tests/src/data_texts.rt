@@ -1,7 +1,8 @@
 //! Record data as text, scanned, printed and laid out.
 
+use crate::printed::is_printed;
 use dns_text::{Entry, EntryScanner, Scanner, display_zonefile};
-use std::alloc::{AllocError, Global};
+use std::alloc::Global;
 use svcb_rdata::{Https, Svcb};
 use text_spec::{DisplayKind, ScanError};
 use wire_base::{ComposeRecordData, NoMemory, ParseError, Parser};
@@ -157,10 +158,10 @@ const PRINTED: [(&[u8], &str); 7] = [
 ];
 
 /// Whether octets are data with this text.
-fn has_text(alloc: Global, octets: &[u8], text: &str) -> Result<bool, AllocError> {
+fn has_text(alloc: Global, octets: &[u8], text: &str) -> Result<bool, NoMemory> {
     let mut parser = Parser::from_ref(octets);
     match Https::parse(alloc, &mut parser) {
-        Ok(found) => Ok(format!(in alloc; "{found}")?.as_str() == text),
+        Ok(found) => is_printed(alloc, &found, text),
         Err(_) => Ok(false),
     }
 }

@@ -24,6 +24,8 @@ mod param_scans;
 #[cfg(test)]
 mod param_texts;
 #[cfg(test)]
+mod printed;
+#[cfg(test)]
 mod raw_texts;
 #[cfg(test)]
 mod reading;

@@ -1,10 +1,11 @@
 //! Parameters as text.
 
+use crate::printed::is_printed;
 use dns_text::display_zonefile;
-use std::alloc::{AllocError, Global};
+use std::alloc::Global;
 use svcb_params::{SvcParams, SvcParamsRef};
 use text_spec::DisplayKind;
-use wire_base::{Octets, ParseError};
+use wire_base::{NoMemory, Octets, ParseError};
 
 /// Octets of parameters, and their text.
 const TEXTS: [(&[u8], &str); 11] = [
@@ -35,9 +36,12 @@ const TEXTS: [(&[u8], &str); 11] = [
 ];
 
 /// Whether octets are parameters with this text.
-fn has_text(alloc: Global, octets: &[u8], text: &str) -> Result<bool, AllocError> {
+fn has_text(alloc: Global, octets: &[u8], text: &str) -> Result<bool, NoMemory> {
     match SvcParamsRef::from_slice(octets) {
-        Ok(params) => Ok(format!(in alloc; "{params}")?.as_str() == text),
+        Ok(params) => Ok(
+            is_printed(alloc, &params, text)?
+                && is_printed(alloc, &params.to_owned_data(alloc)?, text)?,
+        ),
         Err(_) => Ok(false),
     }
 }

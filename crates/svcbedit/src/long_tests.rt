@@ -2,7 +2,7 @@
 ghost use Rattle.std.specs.Prelude.{◌<◌};
 
 use crate::run::run;
-use crate::tests::{run_long, words};
+use crate::tests::{Ended, run_long, words};
 use devices::{MAX_INPUT, SureSink, SureSource};
 use std::alloc::AllocError;
 use std::fmt::Write;
@@ -28,18 +28,60 @@ fn scans_long_entries(rt: HostRuntime) -> Result<(), Fail> {
     Ok(())
 }
 
-/// Whether data of 65,535 octets is shown, and its text scanned as the same data.
-fn is_longest_scanned_back(rt: &HostRuntime) -> Result<bool, Fail> {
-    let mut data = Vec::from_slice(rt.alloc(), b"0001000001fff8")?;
-    data.resize(2 * 65_535, b'0')?;
-    data.push(b'\n')?;
-    let shown = run_long(rt, "show svcb", &data, 300_000)?;
-    let back = run_long(rt, "scan svcb", &shown.report, 200_000)?;
-    // `1 . key1=`, four octets for each of the value's, and the LF
-    let text_len = 9 + 4 * 65_528 + 1;
+/// The types whose data can have 65,535 octets, the first octets of such data in hexadecimal, behind which zeros
+/// follow, and how many octets the line of its text has.
+const LONGEST: [(&str, &str, usize); 10] = [
+    // `0 0 ( `, two digits an octet, ` )` and LF
+    ("sshfp", "", 6 + 2 * 65_533 + 3),
+    ("tlsa", "", 8 + 2 * 65_532 + 3),
+    ("cds", "", 6 + 2 * 65_531 + 1),
+    ("zonemd", "", 8 + 2 * 65_529 + 3),
+    // four digits of base64 for three octets
+    ("cdnskey", "", 6 + 87_376 + 1),
+    ("openpgpkey", "", 2 + 87_380 + 3),
+    ("ipseckey", "", 10 + 87_376 + 3),
+    // `1 . key1=`, and four octets for each of the value's
+    ("svcb", "0001000001fff8", 9 + 4 * 65_528 + 1),
+    ("https", "0001000001fff8", 9 + 4 * 65_528 + 1),
+    // `\# 65535 `
+    ("type999", "", 9 + 2 * 65_535 + 1),
+];
+
+/// The line of data of so many octets, most of which are zeros.
+fn data_line(rt: &HostRuntime, front: &str, len: usize) -> Result<Vec<u8>, AllocError>
+    requires { len < 100000 }
+{
+    let mut line = Vec::from_slice(rt.alloc(), front.as_bytes())?;
+    line.resize(2 * len, b'0')?;
+    line.push(b'\n')?;
+    Ok(line)
+}
+
+/// Runs a command with the word of a type.
+fn run_typed(
+    rt: &HostRuntime,
+    command: &str,
+    word: &str,
+    input: &[u8],
+    places: usize,
+) -> Result<Ended, Fail> {
+    let line = format!(in rt.alloc(); "{command} {word}")?;
+    run_long(rt, line.as_str(), input, places)
+}
+
+/// Whether data of 65,535 octets is shown in a line of so many, and this is scanned as the same data.
+fn is_longest_scanned_back(
+    rt: &HostRuntime,
+    word: &str,
+    front: &str,
+    line_len: usize,
+) -> Result<bool, Fail> {
+    let data = data_line(rt, front, 65_535)?;
+    let shown = run_typed(rt, "show", word, &data, 300_000)?;
+    let back = run_typed(rt, "scan", word, &shown.report, 200_000)?;
     Ok(
         shown.status == 0
-            && shown.report.len() == text_len
+            && shown.report.len() == line_len
             && back.status == 0
             && back.report.as_slice() == data.as_slice(),
     )
@@ -47,7 +89,114 @@ fn is_longest_scanned_back(rt: &HostRuntime) -> Result<bool, Fail> {
 
 #[test]
 fn the_longest_data_is_scanned_back(rt: HostRuntime) -> Result<(), Fail> {
-    assert!(rt; is_longest_scanned_back(&rt)?);
+    for (word, front, line_len) in &LONGEST {
+        assert!(rt;
+            is_longest_scanned_back(&rt, word, front, *line_len)?,
+            "of {word}"
+        );
+    }
+    Ok(())
+}
+
+/// Whether data of one octet more is refused.
+fn is_longer_refused(rt: &HostRuntime, word: &str, front: &str) -> Result<bool, Fail> {
+    let data = data_line(rt, front, 65_536)?;
+    let shown = run_typed(rt, "show", word, &data, 200)?;
+    Ok(shown.status == 3 && shown.report.as_slice() == b"error: form error\n".as_slice())
+}
+
+#[test]
+fn longer_data_is_not_shown(rt: HostRuntime) -> Result<(), Fail> {
+    for (word, front, _) in &LONGEST {
+        assert!(rt; is_longer_refused(&rt, word, front)?, "of {word}");
+    }
+    Ok(())
+}
+
+/// Texts of too many octets: the word of the type, the text but for so many letters `A` within it, of base16, base64 or
+/// a value, and the fault.
+const TOO_LONG: [(&str, &str, usize, &str, &str); 12] = [
+    // data of 65,536 octets
+    ("sshfp", "0 0 ", 2 * 65_534, "", "long record data"),
+    ("tlsa", "0 0 0 ", 2 * 65_533, "", "long record data"),
+    ("cds", "0 0 0 ", 2 * 65_532, "", "long record data"),
+    ("zonemd", "0 0 0 ", 2 * 65_530, "", "long record data"),
+    ("cdnskey", "0 0 0 ", 87_376, "", "long record data"),
+    ("openpgpkey", "", 87_380, "AA==", "long record data"),
+    ("ipseckey", "0 0 0 . ", 87_376, "AA==", "long record data"),
+    ("svcb", "1 . key1=", 65_529, "", "long record data"),
+    ("https", "1 . key1=", 65_529, "", "long record data"),
+    ("type999", "\\# 65536 ", 2 * 65_536, "", "bad number"),
+    // a value of 65,536 octets, and one protocol of 256
+    ("svcb", "1 . key1=", 65_536, "", "long value"),
+    ("svcb", "1 . alpn=", 256, "", "long item"),
+];
+
+/// Whether `scan` refuses a text with this fault.
+fn is_text_refused(
+    rt: &HostRuntime,
+    word: &str,
+    text: (&str, usize, &str),
+    fault: &str,
+) -> Result<bool, Fail> {
+    let (front, letters, behind) = text;
+    let mut entry = Vec::from_slice(rt.alloc(), front.as_bytes())?;
+    entry.resize(entry.len().saturating_add(letters), b'A')?;
+    entry.extend_from_slice(behind.as_bytes())?;
+    let ended = run_typed(rt, "scan", word, &entry, 200)?;
+    let report = format!(in rt.alloc(); "error: {fault}\n")?;
+    Ok(ended.status == 3 && ended.report.as_slice() == report.as_bytes())
+}
+
+#[test]
+fn longer_data_is_not_scanned(rt: HostRuntime) -> Result<(), Fail> {
+    for (word, front, letters, behind, fault) in &TOO_LONG {
+        let text = (*front, *letters, *behind);
+        assert!(rt; is_text_refused(&rt, word, text, fault)?, "of {word}");
+    }
+    Ok(())
+}
+
+/// Targets of labels of so many letters, and whether they are names: a label has 63 octets at most, and a name 255 with
+/// its lengths and the root.
+const TARGETS: [(&[usize], bool); 4] = [
+    (&[63], true),
+    (&[64], false),
+    (&[63, 63, 63, 61], true),
+    (&[63, 63, 63, 62], false),
+];
+
+/// The octets of data in hexadecimal with a target of these labels, and its text.
+fn target_lines(rt: &HostRuntime, labels: &[usize]) -> Result<(Vec<u8>, String), AllocError> {
+    let mut data = String::from_str(rt.alloc(), "0001")?;
+    let mut text = String::from_str(rt.alloc(), "1 ")?;
+    for len in labels {
+        write!(data, "{len:02x}")?;
+        for _ in 0..*len {
+            data.push_str("61")?;
+            text.push('a')?;
+        }
+        text.push('.')?;
+    }
+    data.push_str("00\n")?;
+    Ok((Vec::from_slice(rt.alloc(), data.as_bytes())?, text))
+}
+
+/// Whether `scan` gives the data of a target of these labels, or says that it is no name.
+fn is_target_scanned(rt: &HostRuntime, labels: &[usize], is_name: bool) -> Result<bool, Fail> {
+    let (data, text) = target_lines(rt, labels)?;
+    let ended = run_long(rt, "scan svcb", text.as_bytes(), 1000)?;
+    if is_name {
+        return Ok(ended.status == 0 && ended.report.as_slice() == data.as_slice());
+    }
+    Ok(ended.status == 3 && ended.report.as_slice() == b"error: bad name\n".as_slice())
+}
+
+#[test]
+fn scans_the_longest_targets(rt: HostRuntime) -> Result<(), Fail> {
+    for (labels, is_name) in &TARGETS {
+        assert!(rt; is_target_scanned(&rt, labels, *is_name)?, "of {is_name}");
+    }
     Ok(())
 }
 

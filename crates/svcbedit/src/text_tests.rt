@@ -3,7 +3,7 @@ use crate::tests::{ends_with, run_on};
 use std::test::Fail;
 
 /// Command lines, each with an input, a status and the line that is written, without its LF.
-const ROWS: [(&str, &str, u8, &str); 56] = [
+const ROWS: [(&str, &str, u8, &str); 87] = [
     (
         "scan svcb",
         "1 . port=53 alpn=h2\n",
@@ -206,6 +206,78 @@ const ROWS: [(&str, &str, u8, &str); 56] = [
         "1 foo.example.com. mandatory=key123,key123 key123=abc",
         3,
         "error: duplicate item",
+    ),
+    // forms that other zone tools read otherwise
+    (
+        "scan svcb",
+        r#"1 . alpn="h2"port=443"#,
+        0,
+        "0001000001000b0a6832706f72743d343433",
+    ),
+    ("scan svcb", r#"1 . "alpn=h2""#, 0, "00010000010003026832"),
+    ("scan svcb", "1 . docpath=/a", 0, "000100000a00022f61"),
+    ("show svcb", "000100000a00022f61", 0, "1 . docpath=/a"),
+    ("scan svcb", "1 . pvd oots=x", 0, "000100000b0000000c000178"),
+    ("show svcb", "000100000b0000000c000178", 0, "1 . pvd oots=x"),
+    ("scan svcb", r"\035 3 000100", 0, "000100"),
+    ("scan svcb", "1 @", 3, "error: bad name"),
+    ("scan svcb", r"1 \@", 0, "0001014000"),
+    // characters of keys
+    ("scan svcb", "1 . key9=a", 0, "0001000009000161"),
+    ("scan svcb", "1 . z=1", 3, "error: unknown key"),
+    ("scan svcb", "1 . key_1", 3, "error: bad key character"),
+    ("scan svcb", "1 . ALPN=h2", 3, "error: bad key character"),
+    // a key by its number has any octets as its value
+    ("scan svcb", "1 . key3=53", 0, "000100000300023533"),
+    ("show svcb", "000100000300023533", 0, "1 . port=13619"),
+    // items without octets
+    (
+        "scan svcb",
+        "1 . ipv4hint=192.0.2.1,",
+        3,
+        "error: empty item",
+    ),
+    (
+        "scan svcb",
+        "1 . mandatory=,alpn alpn=h2",
+        3,
+        "error: empty item",
+    ),
+    ("scan svcb", "1 . alpn=h2,,h3", 3, "error: empty item"),
+    (
+        "scan svcb",
+        "1 . tls-supported-groups=29,",
+        3,
+        "error: empty item",
+    ),
+    // escapes within lists (RFC 9460, appendix A.1)
+    ("scan svcb", r"1 . alpn=a\\,b", 0, "0001000001000403612c62"),
+    ("scan svcb", r"1 . alpn=a\,b", 0, "0001000001000401610162"),
+    ("scan svcb", r"1 . alpn=a\\b", 3, "error: escape in list"),
+    (
+        "scan svcb",
+        r"1 . ipv4hint=192.0.2.1\\,192.0.2.2",
+        3,
+        "error: escape in list",
+    ),
+    // the greatest numbers, and one more
+    ("scan svcb", "65535 .", 0, "ffff00"),
+    ("scan svcb", "65536 .", 3, "error: bad number"),
+    ("scan svcb", "1 . port=65535", 0, "00010000030002ffff"),
+    ("scan svcb", "1 . port=65536", 3, "error: bad port"),
+    ("scan svcb", "1 . key65535=a", 0, "000100ffff000161"),
+    ("scan svcb", "1 . key65536=a", 3, "error: unknown key"),
+    (
+        "scan svcb",
+        "1 . tls-supported-groups=0,65535",
+        0,
+        "000100000900040000ffff",
+    ),
+    (
+        "scan svcb",
+        "1 . tls-supported-groups=65536",
+        3,
+        "error: bad number",
     ),
     // a command that reads nothing
     ("gen 1", "", 0, "accepted 1 duplicate 1 octets 15 sum 206"),

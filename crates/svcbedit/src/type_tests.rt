@@ -3,7 +3,7 @@ use crate::tests::ends_with;
 use std::test::Fail;
 
 /// Command lines, each with an input, a status and the line that is written, without its LF.
-const ROWS: [(&str, &str, u8, &str); 43] = [
+const ROWS: [(&str, &str, u8, &str); 70] = [
     ("scan a", "192.0.2.1\n", 0, "c0000201"),
     ("show a", "c0000201\n", 0, "192.0.2.1"),
     ("scan a", "192.0.2.1 x\n", 3, "error: trailing tokens"),
@@ -82,6 +82,36 @@ const ROWS: [(&str, &str, u8, &str); 43] = [
     ("scan a", "\"\\#\" 4 c0000201\n", 0, "c0000201"),
     ("scan type999", "\\# 4 0a0b0c\n", 3, "error: bad number"),
     ("scan type999", "x\n", 3, "error: unknown type"),
+    // a registry's number is a number alone
+    ("scan cds", "10 RSASHA1 2 6b6579", 3, "error: bad number"),
+    ("scan cdnskey", "256 3 RSASHA1 a2V5", 3, "error: bad number"),
+    ("scan sshfp", "RSA 1 aa", 3, "error: bad number"),
+    ("scan tlsa", "DANE-EE 1 1 aa", 3, "error: bad number"),
+    ("scan zonemd", "1 SIMPLE 1 aa", 3, "error: bad number"),
+    ("scan ipseckey", "10 NONE 0 .", 3, "error: bad number"),
+    ("scan ipseckey", "10 3 0 @", 3, "error: bad name"),
+    // data behind the marker isn't looked into, and an empty line is an entry
+    ("scan a", r"\# 1 00", 0, "00"),
+    ("scan a", "\n192.0.2.1\n", 3, "error: trailing tokens"),
+    // the greatest numbers, and one more; a last field without octets
+    ("scan a", "255.255.255.255\n", 0, "ffffffff"),
+    ("scan a", "256.0.0.1\n", 3, "error: bad address"),
+    ("scan a", "192.0.2.01\n", 3, "error: bad address"),
+    ("show a", "c00002\n", 3, "error: short input"),
+    ("scan cds", "65535 255 255\n", 0, "ffffffff"),
+    ("scan cds", "65536 5 2\n", 3, "error: bad number"),
+    ("scan cds", "10 256 2\n", 3, "error: bad number"),
+    ("scan cdnskey", "65535 255 255\n", 0, "ffffffff"),
+    ("scan sshfp", "255 255\n", 0, "ffff"),
+    ("scan sshfp", "255 256\n", 3, "error: bad number"),
+    ("scan tlsa", "255 255 255\n", 0, "ffffff"),
+    ("scan tlsa", "256 0 0\n", 3, "error: bad number"),
+    ("scan zonemd", "4294967295 255 255\n", 0, "ffffffffffff"),
+    ("scan zonemd", "4294967296 1 1\n", 3, "error: bad number"),
+    ("scan ipseckey", "255 0 0 .\n", 0, "ff0000"),
+    ("scan ipseckey", "256 0 0 .\n", 3, "error: bad number"),
+    ("scan openpgpkey", "\n", 0, ""),
+    ("show openpgpkey", "\n", 0, "(  )"),
     // the words of numbers
     ("show type1", "c0000201\n", 0, "192.0.2.1"),
     ("scan type1", "192.0.2.1\n", 0, "c0000201"),

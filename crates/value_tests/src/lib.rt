@@ -8,6 +8,8 @@ mod lists;
 #[cfg(test)]
 mod long_values;
 #[cfg(test)]
+mod printed;
+#[cfg(test)]
 mod scans;
 #[cfg(test)]
 mod texts;

@@ -1,5 +1,6 @@
 //! The texts of values (RFC 9460, section 7 and appendix D.2; RFC 9461, section 5).
 
+use crate::printed::is_printed;
 use registry::SvcParamKey;
 use std::alloc::Global;
 use std::fmt::Display;
@@ -8,15 +9,10 @@ use svcb_text::scan_param;
 use svcb_value::{DohPath, Ech, NoDefaultAlpn, Ohttp, Port};
 use wire_base::{Ipv4Addr, Ipv6Addr, Octets};
 
-/// Whether a value is printed so.
-fn is_printed<T: Display>(alloc: Global, value: &T, text: &str) -> bool {
-    matches!(format!(in alloc; "{value}"), Ok(printed) if printed.as_str() == text)
-}
-
 /// Whether a value was made, and is printed so.
 fn is_made<T: Display + Drop, E: Drop>(alloc: Global, value: Result<T, E>, text: &str) -> bool {
     match value {
-        Ok(value) => is_printed(alloc, &value, text),
+        Ok(value) => is_printed(alloc, &value, text) == Ok(true),
         Err(_) => false,
     }
 }
@@ -35,8 +31,8 @@ fn lists_are_printed(rt: HostRuntime) {
     assert!(rt; is_made(alloc, groups, "tls-supported-groups=29,23"));
     let mut protocols = AlpnBuilder::empty(alloc);
     assert!(rt; protocols.push(b"h2").is_ok() && protocols.push(b"h3-19").is_ok());
-    assert!(rt; is_printed(alloc, &protocols.freeze(), "alpn=h2,h3-19"));
-    assert!(rt; is_printed(alloc, &AlpnBuilder::empty(alloc).freeze(), ""));
+    assert!(rt; is_printed(alloc, &protocols.freeze(), "alpn=h2,h3-19") == Ok(true));
+    assert!(rt; is_printed(alloc, &AlpnBuilder::empty(alloc).freeze(), "") == Ok(true));
 }
 
 #[test]
@@ -63,9 +59,9 @@ fn other_values_are_printed(rt: HostRuntime) {
     assert!(rt; is_made(alloc, DohPath::from_text(alloc, ""), "dohpath"));
     let no_octets = Octets::from_vec(Vec::new(alloc));
     assert!(rt; is_made(alloc, Ech::from_octets(no_octets), "ech"));
-    assert!(rt; is_printed(alloc, &Port::new(53), "port=53"));
-    assert!(rt; is_printed(alloc, &NoDefaultAlpn, "no-default-alpn"));
-    assert!(rt; is_printed(alloc, &Ohttp, "ohttp"));
+    assert!(rt; is_printed(alloc, &Port::new(53), "port=53") == Ok(true));
+    assert!(rt; is_printed(alloc, &NoDefaultAlpn, "no-default-alpn") == Ok(true));
+    assert!(rt; is_printed(alloc, &Ohttp, "ohttp") == Ok(true));
 }
 
 /// Tokens, and the text of the values that they spell.
@@ -80,10 +76,11 @@ const PRINTED: [(&[u8], &str); 8] = [
     (b"key667=hello\xd2qoo", "key667=hello\\210qoo"),
 ];
 
-/// Whether the value that a token spells is printed so.
+/// Whether the value that a token spells, and a view of it, are printed so.
 fn is_spelled(alloc: Global, token: &[u8], text: &str) -> bool {
     match scan_param(alloc, token) {
-        Ok(value) => is_printed(alloc, &value, text),
+        Ok(value) => is_printed(alloc, &value, text) == Ok(true)
+            && is_printed(alloc, &value.for_ref(), text) == Ok(true),
         Err(_) => false,
     }
 }
