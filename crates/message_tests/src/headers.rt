@@ -115,84 +115,40 @@ fn fields_are_as_printed(rt: HostRuntime) {
     }
 }
 
-/// Each bit of the flags by itself, the highest first (RFC 1035, section 4.1.1; RFC 4035, section 3.2): qr, the four of
-/// the opcode, aa, tc, rd, ra, one that is kept free, ad, cd, the four of the rcode.
-const SINGLE_BITS: [Header; 16] = [
-    Header {
-        qr: true,
-        ..QUESTION
-    },
-    Header {
-        opcode: 8,
-        ..QUESTION
-    },
-    Header {
-        opcode: 4,
-        ..QUESTION
-    },
-    Header {
-        opcode: 2,
-        ..QUESTION
-    },
-    Header {
-        opcode: 1,
-        ..QUESTION
-    },
-    Header {
-        aa: true,
-        ..QUESTION
-    },
-    Header {
-        tc: true,
-        ..QUESTION
-    },
-    Header {
-        rd: true,
-        ..QUESTION
-    },
-    Header {
-        ra: true,
-        ..QUESTION
-    },
-    QUESTION,
-    Header {
-        ad: true,
-        ..QUESTION
-    },
-    Header {
-        cd: true,
-        ..QUESTION
-    },
-    Header {
-        rcode: 8,
-        ..QUESTION
-    },
-    Header {
-        rcode: 4,
-        ..QUESTION
-    },
-    Header {
-        rcode: 2,
-        ..QUESTION
-    },
-    Header {
-        rcode: 1,
-        ..QUESTION
-    },
+/// The two octets of the flags with one bit set, the highest first, and the header that they make (RFC 1035, section
+/// 4.1.1; RFC 4035, section 3.2).
+#[rattlefmt::skip]
+const SINGLE_BITS: [(u8, u8, Header); 16] = [
+    (0x80, 0, Header { qr: true, ..QUESTION }),
+    (0x40, 0, Header { opcode: 8, ..QUESTION }),
+    (0x20, 0, Header { opcode: 4, ..QUESTION }),
+    (0x10, 0, Header { opcode: 2, ..QUESTION }),
+    (0x08, 0, Header { opcode: 1, ..QUESTION }),
+    (0x04, 0, Header { aa: true, ..QUESTION }),
+    (0x02, 0, Header { tc: true, ..QUESTION }),
+    (0x01, 0, Header { rd: true, ..QUESTION }),
+    (0, 0x80, Header { ra: true, ..QUESTION }),
+    // a bit that is kept free
+    (0, 0x40, QUESTION),
+    (0, 0x20, Header { ad: true, ..QUESTION }),
+    (0, 0x10, Header { cd: true, ..QUESTION }),
+    (0, 0x08, Header { rcode: 8, ..QUESTION }),
+    (0, 0x04, Header { rcode: 4, ..QUESTION }),
+    (0, 0x02, Header { rcode: 2, ..QUESTION }),
+    (0, 0x01, Header { rcode: 1, ..QUESTION }),
 ];
 
 #[test]
 fn each_bit_is_one_field(rt: HostRuntime) {
-    for (place, header) in SINGLE_BITS.iter().enumerate() {
-        let mut octets = [0, 0, 0, 0, 0, 1, 0, 0, 0, 0, 0, 0];
-        octets[2 + place / 8] = 128 >> (place % 8);
-        assert_eq!(rt; header_of(&octets), Ok(*header), "bit {place}");
+    for (high, low, header) in &SINGLE_BITS {
+        let octets = [0, 0, *high, *low, 0, 1, 0, 0, 0, 0, 0, 0];
+        assert_eq!(rt; header_of(&octets), Ok(*header));
     }
 }
 
 #[test]
 fn a_message_has_12_octets_at_least(rt: HostRuntime) {
-    assert_eq!(rt; header_of(&KDIG_QUERY[..11]), Err(ShortInput));
+    assert_eq!(rt; header_of(&[0; 11]), Err(ShortInput));
     assert_eq!(rt; header_of(b""), Err(ShortInput));
     let header = Header {
         qdcount: 0,

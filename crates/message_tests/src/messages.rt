@@ -1,4 +1,4 @@
-//! Messages of the servers `named` of BIND 9.18.49 and `knotd` of Knot DNS 3.2.6, and of `kdig`, the client of Knot DNS.
+//! Messages of the servers `named` of BIND 9.18.49 and `knotd` of Knot DNS 3.2.6, and of the client `kdig` of Knot DNS.
 //! They are also kept in `examples/messages`, with what `kdig` printed of each, and how they were made.
 
 /// The query of `kdig` that [`NAMED_HTTPS`] answers.

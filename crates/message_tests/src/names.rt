@@ -8,5 +8,10 @@ pub type Labels = &'static [&'static [u8]];
 /// Whether a name has these labels, in this case.
 pub fn is_name(name: &ParsedName<'_>, wanted: Labels) -> bool {
     let mut labels = name.labels();
-    wanted.iter().all(|label| labels.next() == Some(*label)) && labels.next().is_none()
+    for label in wanted {
+        if labels.next() != Some(*label) {
+            return false;
+        }
+    }
+    labels.next().is_none()
 }
