@@ -37,26 +37,26 @@ pub fn are_entered<'a, E: ParseEntry<'a>>(mut entries: Entries<'a, E>, wanted: E
 /// Whether a section of records was reached, and gives what is wanted.
 fn is_section(
     records: Result<Records<'_>, ParseError>,
-    wanted: &Result<Entered, ParseError>,
+    wanted: Result<Entered, ParseError>,
 ) -> bool {
     match records {
         Ok(records) => match wanted {
-            Ok(entered) => are_entered(records, *entered),
+            Ok(entered) => are_entered(records, entered),
             Err(_) => false,
         },
-        Err(error) => *wanted == Err(error),
+        Err(error) => wanted == Err(error),
     }
 }
 
 /// Whether the sections of a message give what is wanted.
-fn is_outcome(octets: &[u8], wanted: &Outcome) -> Result<bool, ParseError> {
+fn is_outcome(octets: &[u8], wanted: Outcome) -> Result<bool, ParseError> {
     let message = Message::from_octets(octets)?;
     let ([answers, authorities, additionals], trailing) = wanted;
     Ok(
         is_section(message.answers(), answers)
             && is_section(message.authorities(), authorities)
             && is_section(message.additionals(), additionals)
-            && message.trailing() == *trailing,
+            && message.trailing() == trailing,
     )
 }
 
@@ -179,6 +179,6 @@ const ROWS: [(&[u8], Outcome); 19] = [
 #[test]
 fn the_first_fault_decides(rt: HostRuntime) {
     for (octets, wanted) in &ROWS {
-        assert_eq!(rt; is_outcome(octets, wanted), Ok(true), "{octets:?}");
+        assert_eq!(rt; is_outcome(octets, *wanted), Ok(true), "{octets:?}");
     }
 }
