@@ -2,7 +2,8 @@
 //! decides. Octets behind the last record are none.
 
 use dns_message::{Entries, Message, ParseEntry, Records};
-use wire_base::ParseError;
+use std::test::Fail;
+use wire_base::{Name, ParseError, Rtype};
 
 /// How many entries a section gives in front of its fault, if it has one.
 type Entered = (usize, Option<ParseError>);
@@ -59,6 +60,17 @@ fn is_outcome(octets: &[u8], wanted: Outcome) -> Result<bool, ParseError> {
             && message.trailing() == trailing,
     )
 }
+
+/// A question whose name points to itself, in front of no record.
+const BAD_QUESTION: &[u8] =
+    b"\x00\x00\x00\x00\x00\x01\x00\x01\x00\x00\x00\x00\xc0\x0c\x00\x01\x00\x01";
+
+/// A record of the root, one whose owner points to itself, and a third like the first, which isn't reached.
+const FAULT_BETWEEN: &[u8] = b"\
+    \x00\x00\x00\x00\x00\x00\x00\x03\x00\x00\x00\x00\
+    \x00\x00\x01\x00\x01\x00\x00\x00\x00\x00\x00\
+    \xc0\x17\x00\x01\x00\x01\x00\x00\x00\x00\x00\x00\
+    \x00\x00\x01\x00\x01\x00\x00\x00\x00\x00\x00";
 
 /// Messages and what they give.
 const ROWS: [(&[u8], Outcome); 19] = [
@@ -161,17 +173,9 @@ const ROWS: [(&[u8], Outcome); 19] = [
             \x00\x00\x01\x00\x01\x00\x00\x00\x00\xff\xff\xc0\x17",
         ([Ok((0, Some(SHORT))), Err(SHORT), Err(SHORT)], Err(SHORT)),
     ),
-    // a question that points to itself in front of no record
+    (BAD_QUESTION, ([Err(FORM), Err(FORM), Err(FORM)], Err(FORM))),
     (
-        b"\x00\x00\x00\x00\x00\x01\x00\x01\x00\x00\x00\x00\xc0\x0c\x00\x01\x00\x01",
-        ([Err(FORM), Err(FORM), Err(FORM)], Err(FORM)),
-    ),
-    // a good record in front of a fault, and a third that isn't reached
-    (
-        b"\x00\x00\x00\x00\x00\x00\x00\x03\x00\x00\x00\x00\
-            \x00\x00\x01\x00\x01\x00\x00\x00\x00\x00\x00\
-            \xc0\x17\x00\x01\x00\x01\x00\x00\x00\x00\x00\x00\
-            \x00\x00\x01\x00\x01\x00\x00\x00\x00\x00\x00",
+        FAULT_BETWEEN,
         ([Ok((1, Some(FORM))), Err(FORM), Err(FORM)], Err(FORM)),
     ),
 ];
@@ -181,4 +185,17 @@ fn the_first_fault_decides(rt: HostRuntime) {
     for (octets, wanted) in &ROWS {
         assert_eq!(rt; is_outcome(octets, *wanted), Ok(true), "{octets:?}");
     }
+}
+
+#[test]
+fn a_search_ends_with_the_first_fault(rt: HostRuntime) -> Result<(), Fail> {
+    let root = Name::root(rt.alloc())?;
+    let message = Message::from_octets(FAULT_BETWEEN)?;
+    let mut found = message.find(&root, Rtype::A)?;
+    assert!(rt; matches!(found.next(), Some(Ok(_))));
+    assert!(rt; matches!(found.next(), Some(Err(ParseError::Form))));
+    assert!(rt; found.next().is_none());
+    let message = Message::from_octets(BAD_QUESTION)?;
+    assert_eq!(rt; message.find(&root, Rtype::A).err(), Some(FORM));
+    Ok(())
 }
