@@ -1,18 +1,12 @@
 //! Messages with faults: counts that promise too much, owners that are no names, lengths past the end; the first fault
 //! decides. Octets behind the last record are none.
 
-use dns_message::{Entries, Message, ParseEntry, Records};
+use dns_message::{Entries, Message, ParseEntry};
 use std::test::Fail;
 use wire_base::{Name, ParseError, Rtype};
 
 /// How many entries a section gives in front of its fault, if it has one.
 type Entered = (usize, Option<ParseError>);
-
-/// What each of the three sections of records gives, or the first fault before it; and what stands behind them.
-type Outcome = (
-    [Result<Entered, ParseError>; 3],
-    Result<&'static [u8], ParseError>,
-);
 
 const SHORT: ParseError = ParseError::ShortInput;
 
@@ -35,32 +29,6 @@ pub fn are_entered<'a, E: ParseEntry<'a>>(mut entries: Entries<'a, E>, wanted: E
     ends && entries.next().is_none()
 }
 
-/// Whether a section of records was reached, and gives what is wanted.
-fn is_section(
-    records: Result<Records<'_>, ParseError>,
-    wanted: Result<Entered, ParseError>,
-) -> bool {
-    match records {
-        Ok(records) => match wanted {
-            Ok(entered) => are_entered(records, entered),
-            Err(_) => false,
-        },
-        Err(error) => wanted == Err(error),
-    }
-}
-
-/// Whether the sections of a message give what is wanted.
-fn is_outcome(octets: &[u8], wanted: Outcome) -> Result<bool, ParseError> {
-    let message = Message::from_octets(octets)?;
-    let ([answers, authorities, additionals], trailing) = wanted;
-    Ok(
-        is_section(message.answers(), answers)
-            && is_section(message.authorities(), authorities)
-            && is_section(message.additionals(), additionals)
-            && message.trailing() == trailing,
-    )
-}
-
 /// A question whose name points to itself, in front of no record.
 const BAD_QUESTION: &[u8] =
     b"\x00\x00\x00\x00\x00\x01\x00\x01\x00\x00\x00\x00\xc0\x0c\x00\x01\x00\x01";
@@ -72,119 +40,179 @@ const FAULT_BETWEEN: &[u8] = b"\
     \xc0\x17\x00\x01\x00\x01\x00\x00\x00\x00\x00\x00\
     \x00\x00\x01\x00\x01\x00\x00\x00\x00\x00\x00";
 
-/// Messages and what they give.
-const ROWS: [(&[u8], Outcome); 19] = [
-    // no counts: a header, and octets behind it
+/// Messages without a fault, the counts of records in their sections, and the octets behind the last one.
+const GOOD: [(&[u8], [usize; 3], &[u8]); 4] = [
     (
         b"\x00\x00\x00\x00\x00\x00\x00\x00\x00\x00\x00\x00",
-        ([Ok((0, None)), Ok((0, None)), Ok((0, None))], Ok(b"")),
+        [0, 0, 0],
+        b"",
     ),
     (
         b"\x00\x00\x00\x00\x00\x00\x00\x00\x00\x00\x00\x00\xff\xc0",
-        (
-            [Ok((0, None)), Ok((0, None)), Ok((0, None))],
-            Ok(b"\xff\xc0"),
-        ),
+        [0, 0, 0],
+        b"\xff\xc0",
     ),
-    // octets behind the last record
     (
         b"\x00\x00\x00\x00\x00\x00\x00\x01\x00\x00\x00\x00\
             \x00\x00\x01\x00\x01\x00\x00\x00\x00\x00\x01\xaa\xbb",
-        ([Ok((1, None)), Ok((0, None)), Ok((0, None))], Ok(b"\xbb")),
+        [1, 0, 0],
+        b"\xbb",
     ),
+    (
+        b"\x00\x00\x00\x00\x00\x00\x00\x00\x00\x01\x00\x00\
+            \x00\x00\x01\x00\x01\x00\x00\x00\x00\x00\x01\xaa",
+        [0, 1, 0],
+        b"",
+    ),
+];
+
+/// Whether a message has so many records in each section, and these octets behind them.
+fn is_good(octets: &[u8], counts: [usize; 3], behind: &[u8]) -> Result<bool, ParseError> {
+    let message = Message::from_octets(octets)?;
+    let [answers, authorities, additionals] = counts;
+    Ok(
+        are_entered(message.answers()?, (answers, None))
+            && are_entered(message.authorities()?, (authorities, None))
+            && are_entered(message.additionals()?, (additionals, None))
+            && message.trailing()? == behind,
+    )
+}
+
+#[test]
+fn octets_behind_the_last_record_are_no_fault(rt: HostRuntime) {
+    for (octets, counts, behind) in &GOOD {
+        assert_eq!(rt; is_good(octets, *counts, behind), Ok(true), "{octets:?}");
+    }
+}
+
+/// Messages with a fault: the count of answer records in front of it, or none where it is in a question; and the fault.
+const FAULTS: [(&[u8], Option<usize>, ParseError); 15] = [
     // two questions are promised, and there is one
     (
         b"\x00\x00\x00\x00\x00\x02\x00\x00\x00\x00\x00\x00\x00\x00\x01\x00\x01",
-        ([Err(SHORT), Err(SHORT), Err(SHORT)], Err(SHORT)),
+        None,
+        SHORT,
     ),
     // 65,535 questions are promised, and there is none
     (
         b"\x00\x00\x00\x00\xff\xff\x00\x00\x00\x00\x00\x00",
-        ([Err(SHORT), Err(SHORT), Err(SHORT)], Err(SHORT)),
+        None,
+        SHORT,
     ),
     // no question is promised, and there is one: it is no record
     (
         b"\x00\x00\x00\x00\x00\x00\x00\x01\x00\x00\x00\x00\x00\x00\x01\x00\x01",
-        ([Ok((0, Some(SHORT))), Err(SHORT), Err(SHORT)], Err(SHORT)),
+        Some(0),
+        SHORT,
     ),
     // two records are promised, and there is one
     (
         b"\x00\x00\x00\x00\x00\x00\x00\x02\x00\x00\x00\x00\
             \x00\x00\x01\x00\x01\x00\x00\x00\x00\x00\x01\xaa",
-        ([Ok((1, Some(SHORT))), Err(SHORT), Err(SHORT)], Err(SHORT)),
-    ),
-    // the record belongs to another section
-    (
-        b"\x00\x00\x00\x00\x00\x00\x00\x00\x00\x01\x00\x01\
-            \x00\x00\x01\x00\x01\x00\x00\x00\x00\x00\x01\xaa",
-        (
-            [Ok((0, None)), Ok((1, None)), Ok((0, Some(SHORT)))],
-            Err(SHORT),
-        ),
+        Some(1),
+        SHORT,
     ),
     // an owner that points to itself, and one that points to the label in front of it
     (
         b"\x00\x00\x00\x00\x00\x00\x00\x01\x00\x00\x00\x00\
             \xc0\x0c\x00\x01\x00\x01\x00\x00\x00\x00\x00\x00",
-        ([Ok((0, Some(FORM))), Err(FORM), Err(FORM)], Err(FORM)),
+        Some(0),
+        FORM,
     ),
     (
         b"\x00\x00\x00\x00\x00\x00\x00\x01\x00\x00\x00\x00\
             \x01a\xc0\x0c\x00\x01\x00\x01\x00\x00\x00\x00\x00\x00",
-        ([Ok((0, Some(FORM))), Err(FORM), Err(FORM)], Err(FORM)),
+        Some(0),
+        FORM,
     ),
     // one that points forward, to a root
     (
         b"\x00\x00\x00\x00\x00\x00\x00\x01\x00\x00\x00\x00\
             \xc0\x0e\x00\x01\x00\x01\x00\x00\x00\x00\x00\x00",
-        ([Ok((0, Some(FORM))), Err(FORM), Err(FORM)], Err(FORM)),
+        Some(0),
+        FORM,
     ),
     // one that is cut off
     (
         b"\x00\x00\x00\x00\x00\x00\x00\x01\x00\x00\x00\x00\x05abcd",
-        ([Ok((0, Some(SHORT))), Err(SHORT), Err(SHORT)], Err(SHORT)),
+        Some(0),
+        SHORT,
     ),
     // a length past the end, by one octet and by all
     (
         b"\x00\x00\x00\x00\x00\x00\x00\x01\x00\x00\x00\x00\
             \x00\x00\x01\x00\x01\x00\x00\x00\x00\x00\x02\xaa",
-        ([Ok((0, Some(SHORT))), Err(SHORT), Err(SHORT)], Err(SHORT)),
+        Some(0),
+        SHORT,
     ),
     (
         b"\x00\x00\x00\x00\x00\x00\x00\x01\x00\x00\x00\x00\
             \x00\x00\x01\x00\x01\x00\x00\x00\x00\xff\xff",
-        ([Ok((0, Some(SHORT))), Err(SHORT), Err(SHORT)], Err(SHORT)),
+        Some(0),
+        SHORT,
     ),
     // a record without the last octet of its length
     (
         b"\x00\x00\x00\x00\x00\x00\x00\x01\x00\x00\x00\x00\
             \x00\x00\x01\x00\x01\x00\x00\x00\x00\x00",
-        ([Ok((0, Some(SHORT))), Err(SHORT), Err(SHORT)], Err(SHORT)),
+        Some(0),
+        SHORT,
     ),
     // an owner that points to itself in front of a length past the end
     (
         b"\x00\x00\x00\x00\x00\x00\x00\x01\x00\x00\x00\x00\
             \xc0\x0c\x00\x01\x00\x01\x00\x00\x00\x00\xff\xff",
-        ([Ok((0, Some(FORM))), Err(FORM), Err(FORM)], Err(FORM)),
+        Some(0),
+        FORM,
     ),
     // a length past the end, within which an owner would point to itself
     (
         b"\x00\x00\x00\x00\x00\x00\x00\x02\x00\x00\x00\x00\
             \x00\x00\x01\x00\x01\x00\x00\x00\x00\xff\xff\xc0\x17",
-        ([Ok((0, Some(SHORT))), Err(SHORT), Err(SHORT)], Err(SHORT)),
+        Some(0),
+        SHORT,
     ),
-    (BAD_QUESTION, ([Err(FORM), Err(FORM), Err(FORM)], Err(FORM))),
-    (
-        FAULT_BETWEEN,
-        ([Ok((1, Some(FORM))), Err(FORM), Err(FORM)], Err(FORM)),
-    ),
+    (BAD_QUESTION, None, FORM),
+    (FAULT_BETWEEN, Some(1), FORM),
 ];
+
+/// Whether the answers of a message have a fault behind so many records, or a question has it, and all behind that is
+/// refused for it.
+fn is_refused(octets: &[u8], place: Option<usize>, error: ParseError) -> Result<bool, ParseError> {
+    let message = Message::from_octets(octets)?;
+    let is_answered = match message.answers() {
+        Ok(records) => match place {
+            Some(count) => are_entered(records, (count, Some(error))),
+            None => false,
+        },
+        Err(fault) => place.is_none() && fault == error,
+    };
+    Ok(
+        is_answered
+            && message.authorities().err() == Some(error)
+            && message.additionals().err() == Some(error)
+            && message.trailing() == Err(error),
+    )
+}
 
 #[test]
 fn the_first_fault_decides(rt: HostRuntime) {
-    for (octets, wanted) in &ROWS {
-        assert_eq!(rt; is_outcome(octets, *wanted), Ok(true), "{octets:?}");
+    for (octets, place, error) in &FAULTS {
+        assert_eq!(rt; is_refused(octets, *place, *error), Ok(true), "{octets:?}");
     }
+}
+
+/// The authority records end before the first additional one, which is missing.
+#[test]
+fn a_fault_is_of_its_section(rt: HostRuntime) -> Result<(), Fail> {
+    let octets = b"\x00\x00\x00\x00\x00\x00\x00\x00\x00\x01\x00\x01\
+        \x00\x00\x01\x00\x01\x00\x00\x00\x00\x00\x01\xaa";
+    let message = Message::from_octets(octets)?;
+    assert!(rt; are_entered(message.answers()?, (0, None)));
+    assert!(rt; are_entered(message.authorities()?, (1, None)));
+    assert!(rt; are_entered(message.additionals()?, (0, Some(SHORT))));
+    assert_eq!(rt; message.trailing().err(), Some(SHORT));
+    Ok(())
 }
 
 #[test]
