@@ -1,14 +1,14 @@
 //! The data of records of two servers' answers as types of data read it, printed as `kdig` printed it.
 
 use crate::messages::{KNOTD_HTTPS, NAMED_HTTPS};
-use crate::services::first_of;
+use crate::services::answer_at;
 use dns_message::{Message, ParsedRecord, Records};
 use rdata_union::AllRecordData;
 use std::alloc::Global;
 use std::fmt::Display;
 use std::test::Fail;
 use svcb_rdata::{Https, Svcb};
-use wire_base::{ParseRecordData, Rtype};
+use wire_base::ParseRecordData;
 use wire_records::A;
 
 /// Whether a type of data reads the data of a record, and prints it so; without a text, whether it doesn't take it.
@@ -29,7 +29,7 @@ const SERVICE: &str = "1 svc.example.com. alpn=h2,h3 port=8443 ipv4hint=192.0.2.
 
 #[test]
 fn a_type_reads_its_own_data(rt: HostRuntime) -> Result<(), Fail> {
-    let record = first_of(KNOTD_HTTPS, Rtype::HTTPS)?;
+    let record = answer_at(KNOTD_HTTPS, 1)?;
     assert!(rt; is_printed::<Https>(rt.alloc(), &record, Some(SERVICE))?);
     assert!(rt; is_printed::<Svcb>(rt.alloc(), &record, None)?);
     assert!(rt; is_printed::<A>(rt.alloc(), &record, None)?);

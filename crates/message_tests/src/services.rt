@@ -3,6 +3,7 @@
 use crate::messages::{KNOTD_HTTPS, NAMED_HTTPS};
 use crate::names::{Labels, is_name};
 use dns_message::{FoundRecords, Message, ParsedRecord};
+use std::alloc::Global;
 use std::test::Fail;
 use svcb_rdata::{HttpsVariant, SvcbRef, rebuild_svcb};
 use wire_base::{Name, Octets, ParseError, ParsedName, Rtype};
@@ -65,25 +66,38 @@ fn services_are_found_behind_an_alias(rt: HostRuntime) -> Result<(), Fail> {
     Ok(())
 }
 
-/// Names in another case, types, and whether that many services are found.
-const SEARCHES: [(&[u8], Rtype, &[Service]); 4] = [
-    (b"\x03WEB\x07Example\x03com\x00", Rtype::HTTPS, &SERVICES),
-    (b"\x03web\x07example\x03com\x00", Rtype::SVCB, &[]),
-    (b"\x03www\x07example\x03com\x00", Rtype::HTTPS, &[]),
-    (b"\x07example\x03com\x00", Rtype::HTTPS, &[]),
+/// Names and types, and whether the services are found under them: the case of a name is nothing to a search.
+const SEARCHES: [(&[u8], Rtype, bool); 4] = [
+    (b"\x03WEB\x07Example\x03com\x00", Rtype::HTTPS, true),
+    (b"\x03web\x07example\x03com\x00", Rtype::SVCB, false),
+    (b"\x03www\x07example\x03com\x00", Rtype::HTTPS, false),
+    (b"\x07example\x03com\x00", Rtype::HTTPS, false),
 ];
 
+/// Whether the services, or nothing, are found in the answer of `named` under a name and a type.
+fn is_found(
+    alloc: Global,
+    owner: &[u8],
+    rtype: Rtype,
+    is_wanted: bool,
+) -> Result<bool, ParseError> {
+    let owner = Name::from_octets(Octets::from_slice(alloc, owner)?)?;
+    let mut found = Message::from_octets(NAMED_HTTPS)?.find(&owner, rtype)?;
+    if is_wanted {
+        return are_services(found, &SERVICES);
+    }
+    Ok(found.next().is_none())
+}
+
 #[test]
-fn records_of_an_owner_and_a_type_are_found(rt: HostRuntime) -> Result<(), Fail> {
-    for (owner, rtype, services) in &SEARCHES {
-        let owner = Name::from_octets(Octets::from_slice(rt.alloc(), owner)?)?;
-        let message = Message::from_octets(NAMED_HTTPS)?;
+fn records_of_an_owner_and_a_type_are_found(rt: HostRuntime) {
+    for (owner, rtype, is_wanted) in &SEARCHES {
         assert_eq!(rt;
-            are_services(message.find(&owner, *rtype)?, services),
-            Ok(true)
+            is_found(rt.alloc(), owner, *rtype, *is_wanted),
+            Ok(true),
+            "{owner:?}"
         );
     }
-    Ok(())
 }
 
 /// An answer by hand: a question for an HTTPS record of a.example, and that record, with the priority 1, a pointer to
@@ -94,33 +108,36 @@ const COMPRESSED: &[u8] = b"\
     \xc0\x0c\x00\x41\x00\x01\x00\x00\x00\x3c\x00\x0a\
     \x00\x01\xc0\x0e\x00\x03\x00\x02\x00\x35";
 
-/// The first answer record of a type.
-pub fn first_of<'a>(octets: &'a [u8], rtype: Rtype) -> Result<ParsedRecord<'a>, ParseError> {
+/// The answer record behind so many others.
+pub fn answer_at<'a>(octets: &'a [u8], index: usize) -> Result<ParsedRecord<'a>, ParseError> {
     let mut records = Message::from_octets(octets)?.answers()?;
-    while let Some(Ok(record)) = records.next() {
-        if record.rtype() == rtype {
-            return Ok(record);
-        }
+    for _ in 0..index {
+        records.next();
     }
-    Err(ParseError::Form)
+    match records.next() {
+        Some(item) => item,
+        None => Err(ParseError::ShortInput),
+    }
 }
 
 #[test]
 fn a_compressed_target_is_followed(rt: HostRuntime) -> Result<(), Fail> {
-    let record = first_of(COMPRESSED, Rtype::HTTPS)?;
+    let record = answer_at(COMPRESSED, 0)?;
     let service: Service = (1, &[b"example"], true, Some(53));
     assert_eq!(rt; is_service(&record, &service), Ok(true));
     Ok(())
 }
 
-/// Messages, and the data of their first HTTPS record with its target uncompressed.
-const REBUILT: [(&[u8], &[u8]); 2] = [
+/// Messages, the count of answers in front of an HTTPS record, and its data with its target uncompressed.
+const REBUILT: [(&[u8], usize, &[u8]); 2] = [
     (
         COMPRESSED,
+        0,
         b"\x00\x01\x07example\x00\x00\x03\x00\x02\x00\x35",
     ),
     (
         KNOTD_HTTPS,
+        1,
         b"\x00\x01\x03svc\x07example\x03com\x00\x00\x01\x00\x06\x02h2\x02h3\
             \x00\x03\x00\x02\x20\xfb\x00\x04\x00\x08\xc0\x00\x02\x01\xc0\x00\x02\x02",
     ),
@@ -128,8 +145,8 @@ const REBUILT: [(&[u8], &[u8]); 2] = [
 
 #[test]
 fn data_is_rebuilt_at_its_place(rt: HostRuntime) -> Result<(), Fail> {
-    for (octets, data) in &REBUILT {
-        let record = first_of(octets, Rtype::HTTPS)?;
+    for (octets, index, data) in &REBUILT {
+        let record = answer_at(octets, *index)?;
         let (start, len) = (record.start(), record.rdlen());
         assert!(rt; start <= octets.len() && len <= octets.len() - start);
         let rebuilt = rebuild_svcb(rt.alloc(), octets, start, len, &[], 100)?;
