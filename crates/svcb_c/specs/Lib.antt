@@ -1,0 +1,5 @@
+pub mod Buffers
+pub mod Messages
+pub mod Records
+pub mod Statuses
+pub mod Svcb
