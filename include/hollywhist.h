@@ -6,11 +6,12 @@
    What is asked of the caller, and tested by nothing:
 
    - A pointer is aligned, and good for as many items as the count behind it says. It may be NULL where that count is 0.
-   - What a call writes (target, replies, written, record, param, order, owner) overlaps nothing else that the call is
-     given, and holds something: zero it, or have written it before.
+   - What a call writes (target, replies, written, record, param, order, owner, outcome) overlaps nothing else that the
+     call is given, and holds something: zero it, or have written it before.
    - No other thread writes what a call reads, or touches what it writes, while the call runs.
-   - malloc, realloc and free are one allocator. svcb_rebuild, rr_text, rr_scan and rr_canonical_cmp call them: not from
-     a signal handler, nor in the forked child of a process with threads. The other calls take no memory.
+   - malloc, realloc and free are one allocator. rr_text, rr_scan, rr_canonical_cmp, svcb_rebuild, svcb_choose,
+     cds_check and zonemd_check call them: not from a signal handler, nor in the forked child of a process with threads.
+     The other calls take no memory.
 
    The library has no state, keeps no pointer, hands out none, and starts nothing: any number of threads may call it at
    once. There is nothing to free.
@@ -219,6 +220,29 @@ uint32_t svcb_rebuild(const uint8_t *message, size_t message_len, size_t start, 
                       size_t limit, uint8_t *target, size_t target_room,
                       uint8_t *replies, size_t replies_room, size_t *written);
 
+/* ---- checks of records that lines spell
+
+   Each answers with lines of text. *outcome is 0 where the check was made, and 2 where it was refused: a line has a
+   fault of form, or the records are out of order; the text says which. Below, HEX is the data of a record in
+   hexadecimal, its names uncompressed. */
+
+/* The endpoints that a client chooses for an owner from its SVCB or HTTPS records (RFC 9460, sections 2.4 and 2.5).
+   Line 1 is the owner, line 2 the keys that the client understands, with commas between them, or `-`, line 3 the
+   protocols that the scheme has by itself, or `-`, and each other line the HEX of a record, by ascending priority. */
+uint32_t svcb_choose(const uint8_t *lines, size_t lines_len, uint8_t *target, size_t target_room, size_t *written,
+                     uint32_t *outcome);
+
+/* Whether the CDS and CDNSKEY records of an owner ask the parent zone for the same keys (RFC 7344, section 4). Line 1
+   is the owner; each other line is `cds HEX` or `cdnskey HEX`. */
+uint32_t cds_check(const uint8_t *lines, size_t lines_len, uint8_t *target, size_t target_room, size_t *written,
+                   uint32_t *outcome);
+
+/* Whether a zone has the digest of its ZONEMD record (RFC 8976, section 4). Line 1 is the apex, line 2 the HEX of the
+   ZONEMD record, and each other line a record of the zone in canonical order: owner, the numbers of type and class,
+   TTL, and HEX. */
+uint32_t zonemd_check(const uint8_t *lines, size_t lines_len, uint8_t *target, size_t target_room, size_t *written,
+                      uint32_t *outcome);
+
 /* ---- NULL: the library is never given it. These put an address in its place, where the count behind it is 0. */
 
 static inline const uint8_t *hw_input(const uint8_t *octets) {
@@ -255,6 +279,13 @@ static inline const svcb_push *hw_pushes(const svcb_push *pushes) {
     svcb_rebuild(hw_input(message), (message_len), (start), (len), hw_pushes(pushes), (push_count), \
                  hw_input(octets), (octets_len), (limit), hw_output(target), (target_room), \
                  hw_output(replies), (replies_room), (written))
+
+#define svcb_choose(lines, lines_len, target, target_room, written, outcome) \
+    svcb_choose(hw_input(lines), (lines_len), hw_output(target), (target_room), (written), (outcome))
+#define cds_check(lines, lines_len, target, target_room, written, outcome) \
+    cds_check(hw_input(lines), (lines_len), hw_output(target), (target_room), (written), (outcome))
+#define zonemd_check(lines, lines_len, target, target_room, written, outcome) \
+    zonemd_check(hw_input(lines), (lines_len), hw_output(target), (target_room), (written), (outcome))
 
 /* How each structure lies in memory, as the library has it. */
 #if defined(__cplusplus)

@@ -1,5 +1,5 @@
-/* Calls at their edges: NULL, counts of 0, places and lengths up to 2^64, room one short, octets behind what is due, and
-   eight threads at once. What is expected was worked by hand from RFC 9460, RFC 1035 and the header. */
+/* Calls at their edges: NULL, counts of 0, places and lengths up to 2^64, room one short, octets behind what is due,
+   and eight threads at once. What is expected was worked by hand from RFC 9460, RFC 1035 and the header. */
 
 #include <hollywhist.h>
 #include <pthread.h>
@@ -260,6 +260,27 @@ static void statuses(void) {
         EXPECT(hw_status_text(status, text, sizeof text, &len) == HW_OK && len > 0);
 }
 
+static void checks(void) {
+    /* one record: priority 1, the root as target, port 53 */
+    static const char choice[] = "x.\nport\n-\n000100000300020035\n", report[] = "endpoint 1 x. 53 -\n";
+    static const char alone[] = "x.\n";
+    uint8_t text[64];
+    uint32_t outcome = 7;
+    size_t len = 0;
+
+    memset(text, 0x5a, sizeof text);
+    EXPECT(svcb_choose(octets(choice), strlen(choice), text, strlen(report) - 1, &len, &outcome) == HW_E_ROOM);
+    EXPECT(len == strlen(report) && outcome == 7 && all_are(text, sizeof text, 0x5a));
+    EXPECT(svcb_choose(octets(choice), strlen(choice), text, sizeof text, &len, &outcome) == HW_OK && outcome == 0);
+    EXPECT(len == strlen(report) && memcmp(text, report, len) == 0 && all_are(text + len, sizeof text - len, 0x5a));
+    EXPECT(cds_check(octets(alone), strlen(alone), text, sizeof text, &len, &outcome) == HW_OK && outcome == 0);
+    EXPECT(len == 6 && memcmp(text, "agree\n", len) == 0);
+    EXPECT(svcb_choose(NULL, 0, text, sizeof text, &len, &outcome) == HW_OK && outcome == 2);
+    EXPECT(cds_check(NULL, 0, text, sizeof text, &len, &outcome) == HW_OK && outcome == 2);
+    EXPECT(zonemd_check(NULL, 0, text, sizeof text, &len, &outcome) == HW_OK && outcome == 2);
+    EXPECT(zonemd_check(NULL, 0, NULL, 0, &len, &outcome) == HW_E_ROOM && len > 0);
+}
+
 /* Scans and prints again, for one of eight threads. */
 static void *again(void *argument) {
     for (int port = 1; port <= 5000; port++) {
@@ -294,6 +315,7 @@ int main(void) {
     readings();
     rebuildings();
     messages();
+    checks();
     statuses();
     threads();
     return failures == 0 ? 0 : 1;

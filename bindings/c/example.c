@@ -24,23 +24,26 @@ int main(void) {
     if (status != HW_OK)
         return refused("rr_scan", status);
 
-    svcb_record record = {0};
+    svcb_record record = {0, 0, 0, 0};
     uint8_t target[255] = {0};
     status = svcb_read(data, len, 0, len, target, sizeof target, &record);
     if (status != HW_OK)
         return refused("svcb_read", status);
     printf("priority %" PRIu16 ", %" PRIu32 " parameters\n", record.priority, record.params_count);
 
-    svcb_param param = {0};
-    for (size_t pos = record.params_start; svcb_next(data, len, len, pos, &param) == HW_OK; pos = param.start + param.len)
+    svcb_param param = {0, 0, 0};
+    size_t pos = record.params_start;
+    while (svcb_next(data, len, len, pos, &param) == HW_OK) {
         printf("key %" PRIu16 " has %" PRIu16 " octets\n", param.key, param.len);
+        pos = param.start + param.len;
+    }
 
     /* ipv4hint, key 4 */
     const uint8_t address[] = {192, 0, 2, 1};
     const svcb_push push = {4, sizeof address, 0};
     uint8_t reply = 0;
-    status = svcb_rebuild(data, len, 0, len, &push, 1, address, sizeof address, 65535, rebuilt, sizeof rebuilt, &reply, 1,
-                          &count);
+    status = svcb_rebuild(data, len, 0, len, &push, 1, address, sizeof address, 65535, rebuilt, sizeof rebuilt, &reply,
+                          1, &count);
     if (status != HW_OK)
         return refused("svcb_rebuild", status);
 

@@ -1,5 +1,6 @@
-/* Each allocation of a call fails in turn: the answer is HW_E_MEMORY, the buffers are as they were, and nothing is lost.
-   Linked with -Wl,--wrap=malloc,--wrap=realloc,--wrap=free. */
+/* Each allocation of a call fails in turn: the answer is HW_E_MEMORY, the buffers are as they were, and nothing is
+   lost. A call may also do with less memory, and answer as ever. Linked with
+   -Wl,--wrap=malloc,--wrap=realloc,--wrap=free. */
 
 #include <hollywhist.h>
 #include <stdio.h>
@@ -61,6 +62,17 @@ static uint32_t rebuild(void) {
                         &written);
 }
 
+static uint32_t choose(void) {
+    static const char lines[] = "x.\nport\n-\n000100000300020035\n";
+    return svcb_choose((const uint8_t *)lines, strlen(lines), target, sizeof target, &written, &order);
+}
+
+static void clear(void) {
+    memset(target, 0x5a, sizeof target);
+    memset(replies, 0x5a, sizeof replies);
+    order = 7;
+}
+
 static int is_kept(void) {
     for (size_t i = 0; i < sizeof target; i++)
         if (target[i] != 0x5a)
@@ -72,7 +84,9 @@ int main(void) {
     const struct {
         const char *name;
         uint32_t (*call)(void);
-    } calls[] = {{"rr_scan", scan}, {"rr_text", text}, {"rr_canonical_cmp", compare}, {"svcb_rebuild", rebuild}};
+    } calls[] = {{"rr_scan", scan}, {"rr_text", text}, {"rr_canonical_cmp", compare}, {"svcb_rebuild", rebuild},
+                 {"svcb_choose", choose}};
+    static uint8_t due[sizeof target];
     int failures = 0;
 
     if (scan() != HW_OK)
@@ -80,24 +94,26 @@ int main(void) {
     len = written;
     memcpy(data, target, len);
     for (size_t i = 0; i < sizeof calls / sizeof calls[0]; i++) {
+        long before = held, count = 0, wanting = 0;
+        clear();
         made = 0;
-        long before = held;
-        if (calls[i].call() != HW_OK || made == 0)
-            failures++;
-        long count = made;
+        failures += calls[i].call() != HW_OK;
+        count = made;
+        memcpy(due, target, sizeof due);
         for (long refused = 0; refused < count; refused++) {
-            memset(target, 0x5a, sizeof target);
-            memset(replies, 0x5a, sizeof replies);
-            order = 7;
+            clear();
             left = refused;
             uint32_t status = calls[i].call();
             left = -1;
-            if (status != HW_E_MEMORY || held != before || !is_kept()) {
-                printf("%s, allocation %ld refused: status %u, %ld blocks held\n", calls[i].name, refused,
+            wanting += status == HW_E_MEMORY;
+            int is_right = status == HW_OK ? memcmp(target, due, sizeof due) == 0 : status == HW_E_MEMORY && is_kept();
+            if (!is_right || held != before) {
+                printf("%s, allocation %ld refused: status %u, %ld blocks lost\n", calls[i].name, refused,
                        (unsigned)status, held - before);
                 failures++;
             }
         }
+        failures += wanting == 0;
     }
     return failures == 0 ? 0 : 1;
 }

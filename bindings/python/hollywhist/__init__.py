@@ -11,12 +11,14 @@ True
 
 from . import errors
 from ._library import canonical_cmp, scan, text, version
+from .checks import BadLines, check_cds, check_zonemd, choose
 from .errors import HollywhistError, ScanError, WireError
 from .messages import Message, Record
 from .records import TYPES, Https, Param, RecordData, Reply, ServiceData, Svcb
 
 __all__ = [
     "TYPES",
+    "BadLines",
     "HollywhistError",
     "Https",
     "Message",
@@ -29,6 +31,9 @@ __all__ = [
     "Svcb",
     "WireError",
     "canonical_cmp",
+    "check_cds",
+    "check_zonemd",
+    "choose",
     "errors",
     "scan",
     "text",

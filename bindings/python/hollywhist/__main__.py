@@ -1,8 +1,8 @@
 """usage: python3 -m hollywhist [--json] [FILE..]
 
-Reads lines of dig or of a zone file (owner, time to live, class, type, data) from the files, or from standard input, and
-prints what each record of a type with fields holds, or its fault with line and column. --json prints an object a line.
-The status is 0 where no record has a fault, and else 1.
+Reads lines of dig or of a zone file (owner, time to live, class, type, data) from the files, or from standard input,
+and prints what each record of a type with fields holds, or its fault with line and column. --json prints an object a
+line. The status is 0 where no record has a fault, and else 1.
 """
 
 from __future__ import annotations

@@ -99,6 +99,9 @@ _svcb_rebuild = _call(
     _TARGET,
     POINTER(c_size_t),
 )
+_choose = _call("svcb_choose", _OCTETS, _TARGET, POINTER(c_size_t), POINTER(c_uint32))
+_cds_check = _call("cds_check", _OCTETS, _TARGET, POINTER(c_size_t), POINTER(c_uint32))
+_zonemd_check = _call("zonemd_check", _OCTETS, _TARGET, POINTER(c_size_t), POINTER(c_uint32))
 
 
 def _place(number: int) -> int:
@@ -218,3 +221,28 @@ def message_next(message: bytes, pos: int) -> tuple[Record, bytes]:
     owner = ctypes.create_string_buffer(MAX_NAME)
     check(_message_next(message, len(message), _place(pos), owner, MAX_NAME, byref(record)))
     return record, owner.raw[: record.owner_len]
+
+
+def _answer(call: Callable[..., int], lines: str | bytes) -> tuple[int, str]:
+    """How a check of lines ended, and its report."""
+    octets = lines.encode("utf-8", "surrogateescape") if isinstance(lines, str) else lines
+    outcome = c_uint32(0)
+    report = _written(
+        lambda target, room, written: call(octets, len(octets), target, room, byref(written), byref(outcome))
+    )
+    return outcome.value, report.decode("ascii")
+
+
+def choose(lines: str | bytes) -> tuple[int, str]:
+    """The endpoints that a client chooses."""
+    return _answer(_choose, lines)
+
+
+def cds_check(lines: str | bytes) -> tuple[int, str]:
+    """Whether CDS and CDNSKEY records ask for the same keys."""
+    return _answer(_cds_check, lines)
+
+
+def zonemd_check(lines: str | bytes) -> tuple[int, str]:
+    """Whether a zone has the digest of its ZONEMD record."""
+    return _answer(_zonemd_check, lines)

@@ -91,7 +91,7 @@ def _joined(lines: Iterable[str]) -> Iterator[tuple[int, str]]:
 
 def _depth(line: str) -> int:
     """How many more brackets a line opens than it closes."""
-    bare = re.sub(r'\\.|"(?:\\.|[^"\\])*"|;.*', "", line)
+    bare = re.sub(r'\\.|"(?:\\.|[^"\\])*"|;[^\n]*', "", line)
     return bare.count("(") - bare.count(")")
 
 
@@ -140,8 +140,9 @@ def _fault_start(number: int, text: str, start: int, error: HollywhistError) -> 
     end = start
     for token in _tokens(text, start):
         end = token.end()
+        front = text[start:end]
         try:
-            _library.scan(number, text[start:end])
+            _library.scan(number, front + " )" * _depth(front))
         except ScanError as found:
             if found.status == error.status and found.status != END_OF_ENTRY:
                 return token.start()

@@ -5,6 +5,7 @@ import io
 import json
 import unittest
 from contextlib import redirect_stdout
+from pathlib import Path
 from tempfile import NamedTemporaryFile
 
 import hollywhist
@@ -91,6 +92,24 @@ class DataIsReadAndWritten(unittest.TestCase):
             Message(RESPONSE[:11])
         with self.assertRaises(errors.ShortInput):
             list(Message(RESPONSE[:30]).records())
+
+
+class LinesAreChecked(unittest.TestCase):
+    """The examples of the repository: keys and digests of BIND and ldns, and the zones of RFC 8976, appendix A."""
+
+    EXAMPLES = Path(__file__).resolve().parents[3] / "examples"
+
+    def test_examples(self) -> None:
+        for check, folder in ((hollywhist.choose, "choose"), (hollywhist.check_cds, "cds")):
+            for lines in self.EXAMPLES.glob(folder + "/*.txt"):
+                self.assertEqual(check(lines.read_bytes()), lines.with_suffix(".out").read_text(), lines)
+        for lines in self.EXAMPLES.glob("zones/*.lines"):
+            self.assertEqual(hollywhist.check_zonemd(lines.read_text()), "match\n", lines)
+
+    def test_refusals(self) -> None:
+        for check in (hollywhist.choose, hollywhist.check_cds, hollywhist.check_zonemd):
+            with self.assertRaises(hollywhist.BadLines):
+                check("")
 
 
 class LinesAreRead(unittest.TestCase):

@@ -45,6 +45,12 @@ read_made : (read : Result (DataRead RecordData) Fault) → IsOk (value_read rea
 read_made (Ok held) is = tt
 read_made (Err fault) is = absurd cc
 
+-- what is read to the end is read
+pub whole_is_read : (end : ℕ) (read : Result (DataRead RecordData) Fault) (found : RecordData)
+    → whole_data end read ≡ Ok found → IsRead read
+whole_is_read end (Ok held) found is = tt
+whole_is_read end (Err fault) found is = absurd cc
+
 module _ (rtype : ℕ) (message : List ℕ) (start len : ℕ) (old : Input)
     (begins : old ≡ part_of message start len) where
   read_here : (found : Result RecordData Fault) → value_read (union_read rtype old) ≡ found

@@ -1,8 +1,10 @@
 //! The order of record data of any type.
 
-ghost use Rattle.std.specs.Prelude.{◌≡◌, ◌≢◌};
+ghost use Rattle.std.specs.Prelude.{◌≡◌, ◌≢◌, length};
+ghost use Rattle.record_spec.specs.UnionReading.{union_read};
 ghost use Rattle.rdata_union.specs.Views.{data_of_all};
-ghost use Rattle.svcb_c.specs.Records.{data_of_octets, data_order, compared_status, IsOrder, order_number};
+ghost use Rattle.rdata_union.specs.WholeData.{part_of};
+ghost use Rattle.svcb_c.specs.Records.{IsRead, data_of_octets, data_order, compared_status, IsOrder, order_number};
 ghost use Rattle.svcb_c.specs.declared.status.TheConstants.{HW_OK, HW_E_MEMORY};
 
 use crate::status::{HW_E_FORM, HW_E_MEMORY, HW_E_SHORT, HW_OK};
@@ -30,9 +32,10 @@ fn compare(found: &AllRecordData, other: &AllRecordData) -> u32
     order_number(found.canonical_cmp(other))
 }
 
-/// The canonical order (RFC 4034, section 6.3) of record data of one type: 0 where the first stands before the second, 1
-/// where they are the same, 2 where it stands behind.
+/// The canonical order (RFC 4034, section 6.3) of record data of one type: 0 where the first stands before the second,
+/// 1 where they are the same, 2 where it stands behind.
 #[unsafe(no_mangle)]
+#[tactic(auto, using(crate::proofs::Whole::whole_is_read))]
 pub extern "C" fn rr_canonical_cmp(
     alloc: Global,
     rtype: u16,
@@ -46,6 +49,9 @@ pub extern "C" fn rr_canonical_cmp(
     ensures order { result ≡ HW_OK
         → IsOrder (data_of_octets rtype first.now) (data_of_octets rtype second.now) order.new }
     ensures kept { result ≢ HW_OK → order.new ≡ order.old }
+    // Memory is taken only where the first is data.
+    ensures memory { result ≡ HW_E_MEMORY
+        → IsRead (union_read rtype (part_of first.now 0 (length first.now))) }
 {
     let found = match read_data(alloc, Rtype::from_int(rtype), first, 0, first.len()) {
         Ok(found) => found,

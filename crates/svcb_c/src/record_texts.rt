@@ -30,8 +30,8 @@ fn printed(alloc: Global, found: &AllRecordData) -> Result<String, NoMemory>
     Ok(format!(in alloc; "{found}")?)
 }
 
-/// The text of the record data in the `len` octets from `start` on, under the number of a type. Names in it are followed
-/// through the whole message, and stand in the text uncompressed.
+/// The text of the record data in the `len` octets from `start` on, under the number of a type. Names in it are
+/// followed through the whole message, and stand in the text uncompressed.
 #[unsafe(no_mangle)]
 pub extern "C" fn rr_text(
     alloc: Global,

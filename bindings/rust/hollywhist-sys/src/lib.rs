@@ -1,5 +1,5 @@
-//! The calls of the C library `hollywhist`, as its header declares them. What each asks of its caller, and answers, stands
-//! in `hollywhist.h`; the crate `hollywhist` has safe types over them.
+//! The calls of the C library `hollywhist`, as its header declares them. What each asks of its caller, and answers,
+//! stands in `hollywhist.h`; the crate `hollywhist` has safe types over them.
 #![no_std]
 #![allow(non_camel_case_types)]
 
@@ -139,7 +139,12 @@ pub type svcb_push = svcb_param;
 extern "C" {
     pub fn hw_version() -> u32;
 
-    pub fn hw_status_text(status: u32, target: *mut u8, target_room: usize, written: *mut usize) -> u32;
+    pub fn hw_status_text(
+        status: u32,
+        target: *mut u8,
+        target_room: usize,
+        written: *mut usize,
+    ) -> u32;
 
     pub fn hw_message_begin(message: *const u8, message_len: usize, begun: *mut hw_message) -> u32;
 
@@ -214,6 +219,33 @@ extern "C" {
         replies: *mut u8,
         replies_room: usize,
         written: *mut usize,
+    ) -> u32;
+
+    pub fn svcb_choose(
+        lines: *const u8,
+        lines_len: usize,
+        target: *mut u8,
+        target_room: usize,
+        written: *mut usize,
+        outcome: *mut u32,
+    ) -> u32;
+
+    pub fn cds_check(
+        lines: *const u8,
+        lines_len: usize,
+        target: *mut u8,
+        target_room: usize,
+        written: *mut usize,
+        outcome: *mut u32,
+    ) -> u32;
+
+    pub fn zonemd_check(
+        lines: *const u8,
+        lines_len: usize,
+        target: *mut u8,
+        target_room: usize,
+        written: *mut usize,
+        outcome: *mut u32,
     ) -> u32;
 }
 

@@ -5,12 +5,17 @@ use std::io::{stdin, stdout, BufWriter, Write};
 
 fn octets(hexadecimal: &str) -> Vec<u8> {
     let digits = hexadecimal.as_bytes().chunks(2);
-    digits.map(|pair| u8::from_str_radix(std::str::from_utf8(pair).unwrap(), 16).unwrap()).collect()
+    digits
+        .map(|pair| u8::from_str_radix(std::str::from_utf8(pair).unwrap(), 16).unwrap())
+        .collect()
 }
 
 fn answer(line: &str) -> Result<String, hollywhist::Error> {
     let mut words = line.split(' ');
-    let (command, rtype) = (words.next().unwrap(), words.next().unwrap().parse().unwrap());
+    let (command, rtype) = (
+        words.next().unwrap(),
+        words.next().unwrap().parse().unwrap(),
+    );
     let given = octets(words.next().unwrap_or_default());
     match command {
         "show" => hollywhist::text(rtype, &given, 0, given.len()),

@@ -9,7 +9,9 @@ use hollywhist_sys as sys;
 const FIRST_ROOM: usize = 512;
 
 /// What a call writes, called again with the room that it needs where that was too short.
-pub(crate) fn written(mut call: impl FnMut(&mut [u8], &mut usize) -> u32) -> Result<Vec<u8>, Error> {
+pub(crate) fn written(
+    mut call: impl FnMut(&mut [u8], &mut usize) -> u32,
+) -> Result<Vec<u8>, Error> {
     let mut target = vec![0; FIRST_ROOM];
     loop {
         let mut len = 0;

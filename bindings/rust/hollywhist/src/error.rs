@@ -209,11 +209,10 @@ impl fmt::Display for Error {
         let mut text = [0; 64];
         let mut len = 0;
         // The buffers are of this call alone, and hold something.
-        let status = unsafe { sys::hw_status_text(self.status(), text.as_mut_ptr(), text.len(), &mut len) };
+        let status =
+            unsafe { sys::hw_status_text(self.status(), text.as_mut_ptr(), text.len(), &mut len) };
         match status {
-            sys::HW_OK => {
-                f.write_str(core::str::from_utf8(&text[..len]).map_err(|_| fmt::Error)?)
-            }
+            sys::HW_OK => f.write_str(core::str::from_utf8(&text[..len]).map_err(|_| fmt::Error)?),
             _ => write!(f, "status {}", self.status()),
         }
     }

@@ -20,11 +20,13 @@
 extern crate alloc;
 
 mod calls;
+mod checks;
 mod error;
 mod message;
 mod record;
 mod service;
 
+pub use checks::{check_cds, check_zonemd, choose, CheckError};
 pub use error::{Error, ScanFault};
 pub use message::{Header, Message, Record, Records};
 pub use record::{canonical_cmp, scan, scan_octets, text, RecordData};

@@ -57,7 +57,11 @@ impl<'a> Message<'a> {
 
     /// The records of all three sections, in order, up to the first fault.
     pub fn records(&self) -> Records<'a> {
-        let counts = [self.header.ancount, self.header.nscount, self.header.arcount];
+        let counts = [
+            self.header.ancount,
+            self.header.nscount,
+            self.header.arcount,
+        ];
         Records {
             octets: self.octets,
             pos: self.header.records_start,
@@ -110,7 +114,12 @@ impl<'a> Record<'a> {
 
     /// The text of the data.
     pub fn text(&self) -> Result<String, Error> {
-        text(self.rtype(), self.message, self.fields.data_start, self.fields.data_len)
+        text(
+            self.rtype(),
+            self.message,
+            self.fields.data_start,
+            self.fields.data_len,
+        )
     }
 
     /// The data as that of an SVCB or HTTPS record. None where the record is of another type.

@@ -8,8 +8,8 @@ use core::cmp::Ordering;
 use core::fmt;
 use hollywhist_sys as sys;
 
-/// The text of the record data in the `len` octets from `start` on in a message, under the number of a type. Names in it
-/// are followed through the whole message.
+/// The text of the record data in the `len` octets from `start` on in a message, under the number of a type. Names in
+/// it are followed through the whole message.
 pub fn text(rtype: u16, message: &[u8], start: usize, len: usize) -> Result<String, Error> {
     // A slice is good for its length, and the buffers that are written are of this call alone.
     let octets = written(|target, count| unsafe {

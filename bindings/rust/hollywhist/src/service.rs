@@ -116,7 +116,9 @@ impl<const RTYPE: u16> ServiceData<RTYPE> {
 
     /// The octets of the value under a key.
     pub fn value(&self, key: u16) -> Option<&[u8]> {
-        self.params().find(|param| param.key == key).map(|param| param.value)
+        self.params()
+            .find(|param| param.key == key)
+            .map(|param| param.value)
     }
 
     /// The octets in wire form.
@@ -165,7 +167,10 @@ impl<const RTYPE: u16> ServiceData<RTYPE> {
                 count,
             )
         })?;
-        Ok((Self::from_wire(&octets)?, replies.into_iter().map(reply).collect()))
+        Ok((
+            Self::from_wire(&octets)?,
+            replies.into_iter().map(reply).collect(),
+        ))
     }
 
     /// The text, as a zone file has it.
