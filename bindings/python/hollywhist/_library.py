@@ -137,10 +137,10 @@ def version() -> int:
 
 def text(rtype: int, message: bytes, start: int = 0, length: int | None = None) -> str:
     """The text of the record data in `length` octets from `start` on in a message, under the number of a type."""
-    end = _place(len(message) - start) if length is None else _place(length)
+    count = max(len(message) - start, 0) if length is None else length
     octets = _written(
         lambda target, room, written: _text(
-            _number16(rtype), message, len(message), _place(start), end, target, room, byref(written)
+            _number16(rtype), message, len(message), _place(start), _place(count), target, room, byref(written)
         )
     )
     return octets.decode("ascii")

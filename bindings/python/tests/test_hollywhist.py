@@ -56,6 +56,8 @@ class DataIsReadAndWritten(unittest.TestCase):
             hollywhist.text(1, bytes(5))
         with self.assertRaises(errors.PlaceError):
             hollywhist.text(1, bytes(4), 1, 2**64 - 1)
+        with self.assertRaises(errors.PlaceError):
+            hollywhist.text(1, bytes(4), 5)
         with self.assertRaisesRegex(errors.BadPort, "bad port"):
             Https.from_text("1 . port=x")
         with self.assertRaises(errors.UnknownType):

@@ -86,8 +86,8 @@ pub extern "C" fn cds_check(
     }
 }
 
-/// Whether a zone has the digest of its ZONEMD record (RFC 8976, section 4). Line 1 is the apex, line 2 the record's data
-/// in hexadecimal, and each other line a record of the zone.
+/// Whether a zone has the digest of its ZONEMD record (RFC 8976, section 4). Line 1 is the apex, line 2 the record's
+/// data in hexadecimal, and each other line a record of the zone in canonical order.
 #[unsafe(no_mangle)]
 pub extern "C" fn zonemd_check(
     alloc: Global,
