@@ -12,7 +12,7 @@ from . import _library
 from .errors import HollywhistError, ScanError
 from .records import TYPES, Https, Param, RecordData, Svcb
 
-CLASSES = {"IN", "CH", "HS", "CS"}
+CLASS = re.compile(r"IN|CH|HS|CS|CLASS\d{1,5}", re.IGNORECASE)
 
 # A time to live in seconds, or with the units that BIND takes.
 TTL = re.compile(r"(?:\d+[smhdw]?)+", re.IGNORECASE)
@@ -110,7 +110,7 @@ def _fields(tokens: list[re.Match[str]]) -> tuple[str | None, str | None, str, i
     ttl = rclass = None
     for token in tokens:
         word = token.group()
-        if rclass is None and word.upper() in CLASSES:
+        if rclass is None and CLASS.fullmatch(word):
             rclass = word.upper()
         elif ttl is None and TTL.fullmatch(word):
             ttl = word

@@ -132,7 +132,7 @@ class LinesAreRead(unittest.TestCase):
             "$TTL 3600\n",
             "a.example. IN 1h HTTPS 1 . ( alpn=h2 ; the protocols\n",
             "    port=8443 )\n",
-            "    A 192.0.2.1\n",
+            "    CLASS1 A 192.0.2.1\n",
         ]
         first, second = read(lines)
         assert isinstance(first, Entry) and isinstance(second, Entry)
