@@ -51,7 +51,8 @@ use Rattle.command_lines.specs.Report as report
 use Rattle.command_lines.specs.Tokens.{entry_scanned}
 use Rattle.svcbedit.specs.Report.{too_long}
 use Rattle.svcbedit.specs.Scan.{data_scanned}
-use Rattle.svcbedit.specs.Show.{second_fault, only_line, spelled_octets, whole_message, whole_data, data_in, data_shown, due_of_octets, due_of_show}
+use Rattle.rdata_union.specs.WholeData.{whole_data}
+use Rattle.svcbedit.specs.Show.{second_fault, only_line, spelled_octets, whole_message, data_in, data_shown, due_of_octets, due_of_show}
 use Rattle.command_lines.specs.declared.faults.InputFault.{InputFault}
 use Rattle.svcbedit.specs.declared.words.Command.{Command}
 use Rattle.svcbedit.specs.declared.words.Command.TheVariants.{Show, Scan}

@@ -9,7 +9,8 @@ use Rattle.wire_base.specs.RecordReading.{DataRead, place_behind}
 use Rattle.record_spec.specs.RecordData.{RecordData}
 use Rattle.record_spec.specs.UnionReading.{union_read}
 use Rattle.rdata_union.specs.Views.{value_read}
-use Rattle.svcbedit.specs.Show.{whole_message, whole_data, data_in}
+use Rattle.rdata_union.specs.WholeData.{whole_data}
+use Rattle.svcbedit.specs.Show.{whole_message, data_in}
 
 reaches : (a b : ℕ) → b ≤ a → nat_lt a b ≡ false
 reaches a b past = grind (arith, nat_tests)

@@ -1,11 +1,11 @@
 -- What answers `show`.
-use Rattle.std.specs.Prelude.{ℕ, Option, Some, None, Result, Ok, Err, List, ◌∷◌, length, nat_lt, if◌then◌else◌, slice_get, option_and_then}
-use Rattle.name_spec.specs.Octets.{Fault, Form}
+use Rattle.std.specs.Prelude.{ℕ, Option, Some, None, Result, Ok, Err, List, ◌∷◌, length, slice_get, option_and_then}
+use Rattle.name_spec.specs.Octets.{Fault}
 use Rattle.wire_base.specs.Input.{Input}
-use Rattle.wire_base.specs.RecordReading.{DataRead}
 use Rattle.record_spec.specs.RecordData.{RecordData}
 use Rattle.record_spec.specs.UnionReading.{union_read}
 use Rattle.record_spec.specs.UnionTexts.{union_printed}
+use Rattle.rdata_union.specs.WholeData.{whole_data}
 use Rattle.command_lines.specs.Faults.{due_of_fault}
 use Rattle.command_lines.specs.Hexadecimal.{hexadecimal_octets}
 use Rattle.command_lines.specs.Lines.{lines}
@@ -33,11 +33,6 @@ spelled_octets input = only_line (lines input)
 -- octets as a message of their own
 abbrev pub whole_message : List ℕ → Input
 whole_message octets = record { message = octets; end = length octets; pos = 0 }
-
--- data that reaches to an end; octets that are left behind it are a fault
-abbrev pub whole_data : {V : Type 0} → ℕ → Result (DataRead V) Fault → Result V Fault
-whole_data end (Ok found) = if nat_lt found.next end then Err Form else Ok found.value
-whole_data end (Err fault) = Err fault
 
 -- the data that all these octets are under a type number, or their first fault
 abbrev pub data_in : ℕ → List ℕ → Result RecordData Fault

@@ -1,0 +1,83 @@
+-- What the calls on records of any type answer.
+use Rattle.std.specs.Prelude.{◌≡◌, ℕ, ◌+◌, List, length, Result, Ok, Err, nat_lt, if◌then◌else◌}
+use Rattle.std.specs.declared.cmp.Ordering.{Ordering}
+use Rattle.std.specs.declared.cmp.Ordering.TheVariants.{Less, Equal, Greater}
+use Rattle.name_spec.specs.Octets.{Fault, Short, Form}
+use Rattle.name_spec.specs.CanonicalOrder.{canonical_order}
+use Rattle.wire_base.specs.RecordReading.{DataRead}
+use Rattle.wire_base.specs.declared.errors.ParseError.{ParseError}
+use Rattle.wire_base.specs.declared.errors.ParseError.TheVariants as parse
+use Rattle.text_spec.specs.declared.errors.ScanError.{ScanError}
+use Rattle.record_spec.specs.RecordData.{RecordData, rtype_of, union_wire}
+use Rattle.record_spec.specs.UnionTexts.{union_scan, union_printed}
+use Rattle.rdata_union.specs.WholeData.{whole_data, data_in}
+use Rattle.command_lines.specs.Tokens.{entry_scanned}
+use Rattle.svcb_c.specs.Statuses.{fault_status, scan_fault_status}
+use Rattle.svcb_c.specs.declared.status.TheConstants.{HW_OK, HW_E_PLACE}
+
+-- ---- reading
+
+-- that data was read
+abbrev pub IsRead : {V : Type 0} → Result V Fault → Type 0
+IsRead (Ok found) = Unit {0}
+IsRead (Err fault) = ⊥
+
+-- what is answered, as `view` sees it, of data that is to reach to an end; memory is taken only
+-- where data was read
+abbrev pub GivesWhole : {X V : Type 0} → (X → V) → Result X ParseError → ℕ
+    → Result (DataRead V) Fault → Type 0
+GivesWhole view (Ok x) end read = whole_data end read ≡ Ok (view x)
+GivesWhole view (Err parse.NoMemory) end read = IsRead read
+GivesWhole view (Err parse.ShortInput) end read = whole_data end read ≡ Err Short
+GivesWhole view (Err parse.Form) end read = whole_data end read ≡ Err Form
+
+-- ---- texts
+
+-- the text of data, or the status of its fault
+abbrev pub text_of_data : Result RecordData Fault → Result (List ℕ) ℕ
+text_of_data (Ok found) = Ok (union_printed found)
+text_of_data (Err fault) = Err (fault_status fault)
+
+-- the text of the record data in the `len` octets from `start` on
+abbrev pub text_due : ℕ → List ℕ → ℕ → ℕ → Result (List ℕ) ℕ
+text_due rtype message start len =
+    if nat_lt (length message) (start + len) then Err HW_E_PLACE
+    else text_of_data (data_in rtype message start len)
+
+-- ---- scanning
+
+-- the octets of data that was scanned, or the status of its fault
+abbrev pub octets_scanned : Result RecordData ScanError → Result (List ℕ) ℕ
+octets_scanned (Ok found) = Ok (union_wire found)
+octets_scanned (Err fault) = Err (scan_fault_status fault)
+
+-- the octets of the record data that the text of an entry spells
+abbrev pub octets_due : ℕ → List ℕ → Result (List ℕ) ℕ
+octets_due rtype text = octets_scanned (entry_scanned (union_scan rtype) text)
+
+-- ---- comparing
+
+abbrev pub order_number : Ordering → ℕ
+order_number Less = 0
+order_number Equal = 1
+order_number Greater = 2
+
+-- all octets as record data
+abbrev pub data_of_octets : ℕ → List ℕ → Result RecordData Fault
+data_of_octets rtype octets = data_in rtype octets 0 (length octets)
+
+-- the first fault of the first data, or else of the second
+abbrev pub compared_status : Result RecordData Fault → Result RecordData Fault → ℕ
+compared_status (Ok found) (Ok other) = HW_OK
+compared_status (Ok found) (Err fault) = fault_status fault
+compared_status (Err fault) second = fault_status fault
+
+-- the order of data by the numbers of their types, and then by their octets in canonical form
+abbrev pub data_order : RecordData → RecordData → ℕ
+data_order found other = order_number
+    (canonical_order (rtype_of found) (union_wire found) (rtype_of other) (union_wire other))
+
+abbrev pub IsOrder : Result RecordData Fault → Result RecordData Fault → ℕ → Type 0
+IsOrder (Ok found) (Ok other) order = order ≡ data_order found other
+IsOrder (Ok found) (Err fault) order = ⊥
+IsOrder (Err fault) second order = ⊥

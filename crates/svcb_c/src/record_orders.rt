@@ -1,0 +1,70 @@
+//! The order of record data of any type.
+
+ghost use Rattle.std.specs.Prelude.{◌≡◌, ◌≢◌, length};
+ghost use Rattle.record_spec.specs.UnionReading.{union_read};
+ghost use Rattle.rdata_union.specs.Views.{data_of_all};
+ghost use Rattle.rdata_union.specs.WholeData.{part_of};
+ghost use Rattle.svcb_c.specs.Records.{IsRead, data_of_octets, data_order, compared_status, IsOrder, order_number};
+ghost use Rattle.svcb_c.specs.declared.status.TheConstants.{HW_OK, HW_E_MEMORY};
+
+use crate::status::{HW_E_FORM, HW_E_MEMORY, HW_E_SHORT, HW_OK};
+use crate::whole_data::read_data;
+use rdata_union::AllRecordData;
+use std::alloc::Global;
+use std::cmp::Ordering;
+use wire_base::{CanonicalOrd, ParseError, Rtype};
+
+/// The number of an order.
+fn order_number(order: Ordering) -> u32
+    ensures { result ≡ order_number order }
+{
+    match order {
+        Ordering::Less => 0,
+        Ordering::Equal => 1,
+        Ordering::Greater => 2,
+    }
+}
+
+/// The number of the canonical order of data.
+fn compare(found: &AllRecordData, other: &AllRecordData) -> u32
+    ensures { result ≡ data_order (data_of_all found.now) (data_of_all other.now) }
+{
+    order_number(found.canonical_cmp(other))
+}
+
+/// The canonical order (RFC 4034, section 6.3) of record data of one type: 0 where the first stands before the second,
+/// 1 where they are the same, 2 where it stands behind.
+#[unsafe(no_mangle)]
+#[tactic(auto, using(crate::proofs::Whole::whole_is_read))]
+pub extern "C" fn rr_canonical_cmp(
+    alloc: Global,
+    rtype: u16,
+    first: &[u8],
+    second: &[u8],
+    order: &mut u32,
+) -> u32
+    ensures status { result ≢ HW_E_MEMORY
+        → result
+        ≡ compared_status (data_of_octets rtype first.now) (data_of_octets rtype second.now) }
+    ensures order { result ≡ HW_OK
+        → IsOrder (data_of_octets rtype first.now) (data_of_octets rtype second.now) order.new }
+    ensures kept { result ≢ HW_OK → order.new ≡ order.old }
+    // Memory is taken only where the first is data.
+    ensures memory { result ≡ HW_E_MEMORY
+        → IsRead (union_read rtype (part_of first.now 0 (length first.now))) }
+{
+    let found = match read_data(alloc, Rtype::from_int(rtype), first, 0, first.len()) {
+        Ok(found) => found,
+        Err(ParseError::ShortInput) => return HW_E_SHORT,
+        Err(ParseError::Form) => return HW_E_FORM,
+        Err(ParseError::NoMemory) => return HW_E_MEMORY,
+    };
+    let other = match read_data(alloc, Rtype::from_int(rtype), second, 0, second.len()) {
+        Ok(other) => other,
+        Err(ParseError::ShortInput) => return HW_E_SHORT,
+        Err(ParseError::Form) => return HW_E_FORM,
+        Err(ParseError::NoMemory) => return HW_E_MEMORY,
+    };
+    *order = compare(&found, &other);
+    HW_OK
+}
