@@ -1,10 +1,12 @@
 -- Facts on octets that are decoded pair by pair, as far as it matters whether they are and not why.
-use Rattle.std.proofs.Common.{◌≡◌, ℕ, ◌+◌, ◌*◌, ◌<◌, List, length, take, drop, slice_index, Option, Some, None, Result, Ok, Err, sym, ap, arith}
+use Rattle.std.proofs.Common.{◌≡◌, ℕ, zero, suc, ◌+◌, ◌*◌, ◌<◌, Bool, true, ◌&&◌, ◌==◌, List, [], ◌∷◌, length, take, drop, slice_index, Option, Some, None, unwrap_or, Result, Ok, Err, refl, sym, ap, ◌∙◌, arith}
 use Rattle.std.specs.Result.{result_ok}
-use Rattle.hex.specs.Hex.{decode_pairs, pair_value}
+use Rattle.std.proofs.lemmas.Bool.{and_parts, eqb-true}
+use Rattle.hex.specs.Hex.{decode_pairs, hex_digit_value, pair_value}
 use Rattle.hex.specs.declared.error.FromHexError.{FromHexError}
 use Rattle.hex.proofs.HexLemmas.{decode_of-even}
 use Rattle.hex.proofs.Pairs.{prepend, decode_err}
+use Rattle.command_lines.specs.declared.hexadecimal.TheConstants.{DIGIT_VALUES}
 use Rattle.command_lines.specs.Hexadecimal.{hexadecimal_octets}
 
 -- digits of an even count are decoded pair by pair
@@ -29,3 +31,32 @@ pub refused_pair : (digits octets : List ℕ) (i : ℕ) (pair : Result ℕ FromH
 refused_pair digits octets i (Ok octet) within same none read = absurd cc
 refused_pair digits octets i (Err fault) within same none read =
     ap result_ok (decode_err digits octets i fault within (sym same) read)
+
+-- ---- the table of digits
+
+-- what the table has for an octet
+abbrev pub in_table : ℕ → ℕ
+in_table c = unwrap_or (hex_digit_value c) 255
+
+-- the test of a table from an octet on, which computes
+abbrev is_table : List ℕ → ℕ → Bool
+is_table [] c = true
+is_table (value ∷ values) c = (value == in_table c) && is_table values (c + 1)
+
+is_table-at : (values : List ℕ) (c i : ℕ) → is_table values c ≡ true → i < length values
+    → slice_index values i ≡ in_table (c + i)
+is_table-at [] c i test within = absurd (omega arith)
+is_table-at (value ∷ values) c zero test within =
+    let parts = and_parts (value == in_table c) (is_table values (c + 1)) test in
+    let same : c ≡ c + 0 = omega arith in
+    eqb-true value (in_table c) parts.0 ∙ ap in_table same
+is_table-at (value ∷ values) c (suc i) test within =
+    let parts = and_parts (value == in_table c) (is_table values (c + 1)) test in
+    let next : c + 1 + i ≡ c + suc i = omega arith in
+    is_table-at values (c + 1) i parts.1 (omega arith) ∙ ap in_table next
+
+-- the table has the value of each digit
+pub table_value : (c : ℕ) → c < 256 → slice_index DIGIT_VALUES.now c ≡ in_table c
+table_value c small =
+    let from_0 : 0 + c ≡ c = omega arith in
+    is_table-at DIGIT_VALUES.now 0 c refl small ∙ ap in_table from_0

@@ -1,5 +1,5 @@
 //! Octets in hexadecimal.
-ghost use Rattle.std.specs.Prelude.{◌≡◌, ◌*◌, ℕ, None, Some, drop, length, IfOk, MatchOption, slice_get, option_and_then};
+ghost use Rattle.std.specs.Prelude.{◌≡◌, ◌*◌, ◌<◌, ℕ, None, Some, drop, length, IfOk, MatchOption, slice_get, slice_index, option_and_then, unwrap_or};
 ghost use Rattle.std.specs.Result.{result_ok};
 ghost use Rattle.hex.specs.Hex.{hex_digit_value, pair_value};
 ghost use Rattle.command_lines.specs.Hexadecimal.{hexadecimal_octets};
@@ -10,23 +10,52 @@ use crate::lines::Lines;
 use std::alloc::Global;
 use wire_base::{NoMemory, Octets};
 
-/// The value of a digit, in either case.
-fn digit_value(digit: u8) -> Option<u8>
-    ensures { result ≡ hex_digit_value digit }
+/// What stands in the table for an octet that is no digit.
+const NO_DIGIT: u8 = 255;
+
+/// The values of digits, in either case, by their octets.
+const DIGIT_VALUES: &[u8; 256] = &[
+    255, 255, 255, 255, 255, 255, 255, 255, 255, 255, 255, 255, 255, 255, 255, 255, 255, 255, 255,
+    255, 255, 255, 255, 255, 255, 255, 255, 255, 255, 255, 255, 255, 255, 255, 255, 255, 255, 255,
+    255, 255, 255, 255, 255, 255, 255, 255, 255, 255, 0, 1, 2, 3, 4, 5, 6, 7, 8, 9, 255, 255, 255,
+    255, 255, 255, 255, 10, 11, 12, 13, 14, 15, 255, 255, 255, 255, 255, 255, 255, 255, 255, 255,
+    255, 255, 255, 255, 255, 255, 255, 255, 255, 255, 255, 255, 255, 255, 255, 255, 10, 11, 12, 13,
+    14, 15, 255, 255, 255, 255, 255, 255, 255, 255, 255, 255, 255, 255, 255, 255, 255, 255, 255,
+    255, 255, 255, 255, 255, 255, 255, 255, 255, 255, 255, 255, 255, 255, 255, 255, 255, 255, 255,
+    255, 255, 255, 255, 255, 255, 255, 255, 255, 255, 255, 255, 255, 255, 255, 255, 255, 255, 255,
+    255, 255, 255, 255, 255, 255, 255, 255, 255, 255, 255, 255, 255, 255, 255, 255, 255, 255, 255,
+    255, 255, 255, 255, 255, 255, 255, 255, 255, 255, 255, 255, 255, 255, 255, 255, 255, 255, 255,
+    255, 255, 255, 255, 255, 255, 255, 255, 255, 255, 255, 255, 255, 255, 255, 255, 255, 255, 255,
+    255, 255, 255, 255, 255, 255, 255, 255, 255, 255, 255, 255, 255, 255, 255, 255, 255, 255, 255,
+    255, 255, 255, 255, 255, 255, 255, 255, 255, 255, 255, 255, 255, 255, 255, 255, 255, 255, 255,
+    255, 255, 255,
+];
+
+/// The table of digits.
+fn digit_values() -> &'static [u8; 256]
+    ensures { (c : ℕ) → c < 256
+        → slice_index result.now c ≡ unwrap_or (hex_digit_value c) 255 }
 {
-    match digit {
-        b'0'..=b'9' => Some(digit - b'0'),
-        b'a'..=b'f' => Some(digit - b'a' + 10),
-        b'A'..=b'F' => Some(digit - b'A' + 10),
-        _ => None,
-    }
+    DIGIT_VALUES
+}
+
+/// The value of a digit, in either case, or `NO_DIGIT`.
+fn digit_value(digit: u8) -> u8
+    ensures { result ≡ unwrap_or (hex_digit_value digit) 255 }
+{
+    digit_values()[usize::from(digit)]
 }
 
 /// The octet of two digits.
 fn octet_of(high: u8, low: u8) -> Option<u8>
     ensures { (at : ℕ) → result ≡ result_ok (pair_value high low at) }
 {
-    Some(digit_value(high)? * 16 + digit_value(low)?)
+    let high = digit_value(high);
+    let low = digit_value(low);
+    if (high == NO_DIGIT) | (low == NO_DIGIT) {
+        return None;
+    }
+    Some(high * 16 + low)
 }
 
 /// Writes the octet of each two digits, where all are digits.

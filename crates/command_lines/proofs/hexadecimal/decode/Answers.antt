@@ -15,7 +15,8 @@ returns-in_err-octets c =
 pub loop-i-preserved : goal.loop-i-preserved
 loop-i-preserved c =
     decode_step _ _ c.loop-i.i _ (omega arith) (omega arith)
-    (read_pair _ _ (sym (c.octet_of.ensures (2 * c.loop-i.i)) ∙ c.in_ok-octets.was)) c.loop-i.invariant
+    (read_pair _ _ (sym (c.octet_of.ensures (2 * c.loop-i.i)) ∙ c.in_ok-octets.was))
+    c.loop-i.invariant
 
 pub returns : goal.returns
 returns c =

@@ -6,4 +6,5 @@ use Rattle.command_lines.proofs.hexadecimal.decode.Given as goal
 -- the octets before this one are written
 abbrev pub invariant-loop-i : goal.invariant-loop-i
 invariant-loop-i l =
-    decode_pairs 0 l.digits ≡ prepend (take l.i l.octets) (decode_pairs (2 * l.i) (drop (2 * l.i) l.digits))
+    decode_pairs 0 l.digits
+    ≡ prepend (take l.i l.octets) (decode_pairs (2 * l.i) (drop (2 * l.i) l.digits))
