@@ -1,5 +1,5 @@
 /* The frame of a peer: `PEER show TYPE` and `PEER scan TYPE` with the input and output of svcbedit, over one library.
-   `PEER none` begins the library and ends. */
+   An empty input has it begin the library and end. */
 
 #include <stdint.h>
 #include <stdio.h>
@@ -56,6 +56,6 @@ static int run_scan(const char *kind) {
 int main(int argc, char **argv) {
     start();
     if (argc < 3) return 1;
-    input[fread(input, 1, ROOM - 1, stdin)] = 0;
+    if (fread(input, 1, ROOM - 1, stdin) == 0) return 3;
     return strcmp(argv[1], "show") == 0 ? run_show(argv[2]) : run_scan(argv[2]);
 }

@@ -1,3 +1,4 @@
+pub mod HexadecimalLemmas
 pub mod LineLemmas
 pub mod NumberLemmas
 pub mod SpellingLemmas

@@ -1,11 +1,29 @@
 -- Facts on pieces and lines.
-use Rattle.std.proofs.Common.{◌≡◌, ℕ, ◌+◌, ◌<◌, ◌≤◌, ◌==◌, List, [], ◌∷◌, length, take, drop, Some, None, refl, ap, ◌∙◌, inl, inr, arith}
-use Rattle.std.proofs.lemmas.Bool.{cases_lt, lt-ltb}
+use Rattle.std.proofs.Common.{◌≡◌, ℕ, ◌+◌, ◌<◌, ◌≤◌, ◌==◌, List, [], ◌∷◌, length, take, drop, Option, Some, None, refl, ap, ◌∙◌, inl, inr, arith}
+use Rattle.std.proofs.lemmas.Bool.{cases_lt, false_from_ne_true, le-ltb, lt-ltb}
 use Rattle.std.proofs.lemmas.List.Quantifiers.{position-Some}
 use Rattle.std.proofs.lemmas.List.Splits.{join_with_byte-slice_split, length-slice_split, slice_split_first, slice_split_none}
 use Rattle.std.proofs.lemmas.List.Sums.{count_by-le-length, position_or_len_is, fails_before_first}
 use Rattle.std.specs.List.{position, position_or_len}
+use Rattle.memchr.specs.Find.{IsFirstByte, is_byte}
 use Rattle.command_lines.specs.Lines.{pieces, lines, without_empty_last}
+
+-- the first place of a byte is its position
+pub position-first : (c : ℕ) (xs : List ℕ) (found : Option ℕ) → IsFirstByte (is_byte c) xs found
+    → found ≡ position (λ b. b == c) xs
+position-first c xs (Some i) first =
+    let low : i < length xs = first.0.high in
+    let at : position_or_len (λ b. b == c) xs ≡ i =
+    position_or_len_is (λ b. b == c) xs i 0 (omega (arith, low))
+    (λ k lt. false_from_ne_true _ (first.0.before k (omega arith) lt)) (λ _. first.1) in
+    let test = lt-ltb i (length xs) low in
+    rw (at, test) refl
+position-first c xs None nowhere =
+    let at : position_or_len (λ b. b == c) xs ≡ length xs =
+    position_or_len_is (λ b. b == c) xs (length xs) 0 (omega arith)
+    (λ k lt. false_from_ne_true _ (nowhere k (omega arith) lt)) (λ lt. absurd (omega (arith, lt))) in
+    let test = le-ltb (length xs) (length xs) (omega arith) in
+    rw (at, test) refl
 
 -- where the first separator stands at i, the pieces are what is before it, and those of what
 -- follows it

@@ -3,13 +3,14 @@ ghost use Rattle.std.specs.Prelude.{◌≡◌, ℕ, ◌==◌, ◌<◌, List, [],
 ghost use Rattle.std.specs.Iterator.{YieldsFirstRef, item_count};
 ghost use Rattle.command_lines.specs.Lines.{pieces, lines};
 
+use memchr::memchr;
 use std::marker::Model;
 
 /// The index of the first separator.
 fn find(bytes: &[u8], separator: u8) -> Option<usize>
     ensures { result ≡ position (λ b. b == separator) bytes.now }
 {
-    bytes.iter().position(|b| *b == separator)
+    memchr(separator, bytes)
 }
 
 /// Cuts at the first separator: the piece before it, and what follows it.

@@ -2,8 +2,6 @@
 ghost use Rattle.std.specs.Prelude.{◌≡◌};
 ghost use Rattle.command_lines.specs.Numbers.{decimal_number};
 
-use std::str;
-
 /// The most digits of a number.
 const MAX_DIGITS: usize = 10;
 
@@ -11,18 +9,16 @@ const MAX_DIGITS: usize = 10;
 pub fn number(text: &[u8]) -> Option<u32>
     ensures { result ≡ decimal_number text.now }
 {
-    match str::from_utf8(text) {
-        Ok(text) => number_in(text),
-        Err(_) => None,
-    }
-}
-
-/// Reads a number from a text. std's `parse` takes a leading `+`, which is no digit.
-fn number_in(text: &str) -> Option<u32>
-    ensures { result ≡ decimal_number text.now }
-{
-    if text.len() > MAX_DIGITS || text.starts_with('+') {
+    if text.is_empty() || text.len() > MAX_DIGITS {
         return None;
     }
-    text.parse::<u32>().ok()
+    // Ten digits have at most 34 bits.
+    let mut number: u64 = 0;
+    for i in 0..text.len() {
+        if !text[i].is_ascii_digit() {
+            return None;
+        }
+        number = number * 10 + u64::from(text[i] - b'0');
+    }
+    u32::try_from(number).ok()
 }

@@ -1,5 +1,5 @@
 -- What octets that stand for themselves are read as, in quotes and outside.
-use Rattle.std.proofs.Common.{◌≡◌, ◌≤◌, ℕ, suc, ◌+◌, true, false, cond, List, [], ◌∷◌, ◌++◌, length, take, drop, map, Some, None, Result, Ok, Err, arith, refl, sym, ap, ◌∙◌, ◌&&◌, ◌||◌, not, append_assoc, length-append}
+use Rattle.std.proofs.Common.{◌≡◌, ◌≤◌, ℕ, suc, ◌+◌, Bool, true, false, cond, List, [], ◌∷◌, ◌++◌, length, take, drop, map, Some, None, Result, Ok, Err, arith, refl, sym, ap, ◌∙◌, ◌&&◌, ◌||◌, not, append_assoc, length-append}
 use Rattle.std.specs.List.{prefix_len}
 use Rattle.std.proofs.lemmas.List.{append-nil}
 use Rattle.std.proofs.lemmas.Bool.Decides.{nat_tests}
@@ -8,7 +8,7 @@ use Rattle.text_spec.specs.declared.lexeme.Lexeme.{Lexeme}
 use Rattle.text_spec.specs.declared.lexeme.Lexeme.TheVariants.{Octet}
 use Rattle.text_spec.specs.declared.lexeme.Symbol.{Symbol}
 use Rattle.text_spec.specs.declared.errors.ScanError.{ScanError}
-use Rattle.text_spec.specs.Pieces.{is_bare, token_groups}
+use Rattle.text_spec.specs.Pieces.{is_bare, is_quotable, token_groups}
 use Rattle.text_spec.specs.Tokens.{fault_of, found_in}
 use Rattle.text_spec.specs.Scanning.{octets_of}
 use Rattle.dns_text.specs.Reading.{AppendsToken, GoesOn, GoesOnWith, bare_symbols, with_bare}
@@ -35,28 +35,53 @@ bare_read state c rest text lexeme is bare is_lexeme =
 
 -- ---- octets in a row
 
--- those in front are read as themselves
+-- those in front that pass a test are read as themselves, where it lets such octets through alone
+plain_run : (plain : ℕ → Bool) (state : LexerState)
+    → ((c : ℕ) (rest : List ℕ) → plain c ≡ true
+    → step state c rest ≡ step_of (Octet (record { octet = c; escaped = false })) state 0)
+    → (text : List ℕ)
+    → lexemes_at state 0 text
+    ≡ with_bare (take (prefix_len plain text) text)
+    (lexemes_at state 0 (drop (prefix_len plain text) text))
+plain_run plain state steps [] = refl
+plain_run plain state steps (c ∷ text) =
+    let n = prefix_len plain text in
+    elim (plain c) as
+    (λ b. plain c ≡ b → lexemes_at state 0 (c ∷ text)
+    ≡ with_bare (take (cond b (1 + n) 0) (c ∷ text))
+    (lexemes_at state 0 (drop (cond b (1 + n) 0) (c ∷ text)))) [
+      | true ↦ λ passes. let more : 1 + n ≡ suc n = omega arith in
+          rw more
+          (lexemes_at-reads state c text
+          (record { lexeme = Octet (record { octet = c; escaped = false }); state = state; len = 0 })
+          (steps c text passes)
+          ∙ ap (with_front (Octet (record { octet = c; escaped = false })))
+          (plain_run plain state steps text))
+      | false ↦ λ other. refl
+    ] refl
+
+-- so it is outside quotes, before the entry ends
 pub bare_run : (state : LexerState) (text : List ℕ) → state.ended ≡ false
     → lexemes_at state 0 text
     ≡ with_bare (take (prefix_len is_bare text) text)
     (lexemes_at state 0 (drop (prefix_len is_bare text) text))
-bare_run state [] here = refl
-bare_run state (c ∷ text) here =
-    let n = prefix_len is_bare text in
-    elim (is_bare c) as
-    (λ b. is_bare c ≡ b → lexemes_at state 0 (c ∷ text)
-    ≡ with_bare (take (cond b (1 + n) 0) (c ∷ text))
-    (lexemes_at state 0 (drop (cond b (1 + n) 0) (c ∷ text)))) [
-      | true ↦ λ bare. let more : 1 + n ≡ suc n = omega arith in
-          let stands : ((state.quoted || not state.ended) && is_bare c) ≡ true =
-          grind (arith, here, bare) in
-          rw more
-          (bare_read state c text (c ∷ text) (Octet (record { octet = c; escaped = false })) refl
-          stands refl
-          ∙ ap (with_front (Octet (record { octet = c; escaped = false })))
-          (bare_run state text here))
-      | false ↦ λ other. refl
-    ] refl
+bare_run state text here =
+    plain_run is_bare state
+    (λ c rest bare. bare_step state c rest (grind (arith, here, bare))) text
+
+quotable_step : (state : LexerState) (c : ℕ) (rest : List ℕ) → state.quoted ≡ true
+    → is_quotable c ≡ true
+    → step state c rest ≡ step_of (Octet (record { octet = c; escaped = false })) state 0
+unfolding step
+quotable_step state c rest quoted plain = grind (arith, nat_tests, quoted, plain)
+
+-- and in quotes
+pub quotable_run : (state : LexerState) (text : List ℕ) → state.quoted ≡ true
+    → lexemes_at state 0 text
+    ≡ with_bare (take (prefix_len is_quotable text) text)
+    (lexemes_at state 0 (drop (prefix_len is_quotable text) text))
+quotable_run state text quoted =
+    plain_run is_quotable state (λ c rest plain. quotable_step state c rest quoted plain) text
 
 -- octets that stand for themselves, as lexemes
 abbrev bare_lexemes : List ℕ → List Lexeme

@@ -4,3 +4,4 @@ pub mod NameTexts
 pub mod Nesting
 pub mod NextTokens
 pub mod Rests
+mod PlainOctets

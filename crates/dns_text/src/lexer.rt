@@ -7,6 +7,7 @@ ghost use Rattle.text_spec.specs.Tokens.{start};
 ghost use Rattle.std.specs.List.{prefix_len};
 ghost use Rattle.dns_text.specs.Reading.{StaysWithin, Takes, with_bare};
 
+use crate::plain_octets::{bare_len, is_bare, quotable_len};
 use text_spec::{Lexeme, LexerState, LexerStep, ScanError, Symbol};
 
 const START: LexerState = LexerState {
@@ -75,13 +76,6 @@ fn gap(state: LexerState, len: usize) -> Result<LexerStep, ScanError>
         state,
         len,
     })
-}
-
-#[inline(always)]
-fn is_bare(octet: u8) -> bool
-    ensures { result ≡ is_bare octet }
-{
-    octet > b' ' && octet != 127 && !matches!(octet, b'"' | b'\\' | b';' | b'(' | b')')
 }
 
 // A line's end in the entry, which ends it outside brackets.
@@ -180,20 +174,19 @@ fn is_bare_at(state: LexerState, octet: u8) -> bool
     (state.quoted || !state.ended) && is_bare(octet)
 }
 
-// How many octets stand for themselves before one that doesn't.
-fn bare_len(text: &[u8]) -> usize
-    ensures { result ≡ prefix_len is_bare text.now }
-{
-    text.iter().take_while(|octet| is_bare(**octet)).count()
-}
-
 // How many octets in front are read as themselves here.
 fn bare_len_at(state: LexerState, text: &[u8]) -> usize
     ensures read { lexemes_at state 0 text.now
         ≡ with_bare (take result text.now) (lexemes_at state 0 (drop result text.now)) }
     ensures within { result ≤ length text.now }
 {
-    if state.ended { 0 } else { bare_len(text) }
+    if state.quoted {
+        quotable_len(text)
+    } else if state.ended {
+        0
+    } else {
+        bare_len(text)
+    }
 }
 
 // Not inlined, so that the short way of `Lexer::next` stays small.

@@ -8,6 +8,7 @@ mod formatter;
 mod lexemes;
 mod lexer;
 mod names;
+mod plain_octets;
 mod record_texts;
 mod scanner;
 mod zonefile;
