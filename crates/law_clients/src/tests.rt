@@ -3,12 +3,11 @@
 use crate::{layouts, orders, rebuilding, texts};
 use hollywhist::base::iana::Rtype;
 use hollywhist::base::rdata::ParseRecordData;
-use hollywhist::base::scan::{Entry, EntryScanner};
 use hollywhist::base::wire::{ParseError, Parser};
 use hollywhist::base::zonefile_fmt::DisplayKind;
 use hollywhist::rdata::svcb::value::Port;
 use hollywhist::rdata::svcb::{Reply, Svcb};
-use hollywhist::rdata::{A, Cds, Ipseckey, ZoneRecordData};
+use hollywhist::rdata::{A, Cds};
 use std::alloc::Global;
 use std::cmp::Ordering;
 use std::test::Fail;
@@ -31,23 +30,6 @@ fn texts_are_read_back(rt: HostRuntime) -> Result<(), Fail> {
     assert!(rt; texts::cds_read_back(alloc, &cds)? == cds);
     let svcb = data::<Svcb>(alloc, Rtype::SVCB, SERVICE)?;
     assert!(rt; texts::svcb_read_back(alloc, &svcb)? == svcb);
-    Ok(())
-}
-
-#[test]
-fn a_key_is_read_back(rt: HostRuntime) -> Result<(), Fail> {
-    let alloc = rt.alloc();
-    let mut scanner = EntryScanner::new(Entry::from_text(b"10 0 2 . a2V5")?);
-    let found = Ipseckey::scan(alloc, &mut scanner)?;
-    assert!(rt; texts::ipseckey_read_back(alloc, &found)? == found);
-    Ok(())
-}
-
-#[test]
-fn data_of_a_zone_is_read_back(rt: HostRuntime) -> Result<(), Fail> {
-    let alloc = rt.alloc();
-    let found = ZoneRecordData::Svcb(data(alloc, Rtype::SVCB, SERVICE)?);
-    assert!(rt; texts::zone_read_back(alloc, &found)? == found);
     Ok(())
 }
 

@@ -76,11 +76,10 @@ const PRINTED: [(&[u8], &str); 8] = [
     (b"key667=hello\xd2qoo", "key667=hello\\210qoo"),
 ];
 
-/// Whether the value that a token spells, and a view of it, are printed so.
+/// Whether the value that a token spells is printed so.
 fn is_spelled(alloc: Global, token: &[u8], text: &str) -> bool {
     match scan_param(alloc, token) {
-        Ok(value) => is_printed(alloc, &value, text) == Ok(true)
-            && is_printed(alloc, &value.for_ref(), text) == Ok(true),
+        Ok(value) => is_printed(alloc, &value, text) == Ok(true),
         Err(_) => false,
     }
 }
