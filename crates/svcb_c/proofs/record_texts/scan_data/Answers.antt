@@ -17,4 +17,4 @@ returns c =
     rw c.in_ok-from_text.ensures.answer at c.new-scanner.ensures in
     entry_answers data_of_zone scanning text c.scan.result sound
     (subst (λ (old : Scan). Answers data_of_zone c.scan.result
-    (scanning old.tokens old.taken).outcome) begins c.scan.ensures.answer)
+    (scanning old.tokens old.taken).outcome) begins c.scan.ensures.scans.answer)
