@@ -1,6 +1,6 @@
 -- What the calls on lines answer.
 use Rattle.std.specs.Prelude.{◌≡◌, ℕ, List, length}
-use Rattle.command_lines.specs.Report.{Answer}
+use Rattle.input_lines.specs.Report.{Answer}
 use Rattle.svcb_c.specs.Buffers.{over, room_status}
 
 abbrev pub answer_status : Answer → ℕ → ℕ

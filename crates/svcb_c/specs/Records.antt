@@ -11,7 +11,7 @@ use Rattle.text_spec.specs.declared.errors.ScanError.{ScanError}
 use Rattle.record_spec.specs.RecordData.{RecordData, rtype_of, union_wire}
 use Rattle.record_spec.specs.UnionTexts.{union_scan, union_printed}
 use Rattle.rdata_union.specs.WholeData.{whole_data, data_in}
-use Rattle.command_lines.specs.Tokens.{entry_scanned}
+use Rattle.input_lines.specs.Tokens.{entry_scanned}
 use Rattle.svcb_c.specs.Statuses.{fault_status, scan_fault_status}
 use Rattle.svcb_c.specs.declared.status.TheConstants.{HW_OK, HW_E_PLACE}
 

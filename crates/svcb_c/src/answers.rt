@@ -2,17 +2,17 @@
 //! same keys, whether a zone has the digest of its ZONEMD record.
 
 ghost use Rattle.std.specs.Prelude.{◌≡◌, ◌≢◌, length};
-ghost use Rattle.command_lines.specs.ReportView.{answer_view};
-ghost use Rattle.check_commands.specs.Choose.{due_of_choose};
-ghost use Rattle.check_commands.specs.Cds.{due_of_cds};
-ghost use Rattle.check_commands.specs.Zonemd.{due_of_zonemd};
+ghost use Rattle.input_lines.specs.ReportView.{answer_view};
+ghost use Rattle.commands.specs.Choose.{due_of_choose};
+ghost use Rattle.commands.specs.Cds.{due_of_cds};
+ghost use Rattle.commands.specs.Zonemd.{due_of_zonemd};
 ghost use Rattle.svcb_c.specs.Answers.{answer_status, IsAnswered};
 ghost use Rattle.svcb_c.specs.declared.status.TheConstants.{HW_OK, HW_E_ROOM, HW_E_MEMORY};
 
 use crate::buffers::hand_out;
 use crate::status::{HW_E_MEMORY, HW_OK};
-use check_commands::{cds_answer, choose_answer, zonemd_answer};
-use command_lines::report::Answer;
+use commands::{cds_answer, choose_answer, zonemd_answer};
+use input_lines::report::Answer;
 use std::alloc::Global;
 use wire_base::NoMemory;
 

@@ -13,6 +13,6 @@ mod values;
 
 pub use errors::PushError;
 pub use limited_pairs::LimitedPairs;
-pub use pairs::check;
+pub use pairs::check_params;
 pub use scan::scan_params;
 pub use span::Span;

@@ -30,7 +30,7 @@ fn pass_param(parser: &mut Parser<'_>, last: Option<u16>) -> Result<u16, ParseEr
 }
 
 /// Tests whether octets are parameters. Refused by the first fault, and never with `NoMemory`.
-pub fn check(octets: &[u8]) -> Result<(), ParseError>
+pub fn check_params(octets: &[u8]) -> Result<(), ParseError>
     ensures { MatchResult result
         (λ _. IsParameters octets.now)
         (λ error. IsFaultOf error (read_pairs octets.now)) }

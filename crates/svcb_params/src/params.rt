@@ -16,7 +16,7 @@ use crate::value_iter::{ValueIter, first_of};
 use registry::ParseSvcParamValue;
 use std::alloc::Global;
 use std::marker::Model;
-use svcb_pairs::check;
+use svcb_pairs::check_params;
 use svcb_text::AllValuesRef;
 use wire_base::{NoMemory, Octets, ParseError, Parser};
 
@@ -89,7 +89,7 @@ impl SvcParams {
         ensures wire { IfOk result (λ params. wire params ≡ octets) }
         ensures is_map { IfOk result IsMap }
     {
-        check(octets.as_slice())?;
+        check_params(octets.as_slice())?;
         Ok(SvcParams::from_checked_octets(octets))
     }
 

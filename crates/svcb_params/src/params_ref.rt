@@ -9,7 +9,7 @@ use crate::raw_iter::RawIter;
 use crate::value_iter::{ValueIter, first_of};
 use registry::ParseSvcParamValue;
 use std::alloc::Global;
-use svcb_pairs::check;
+use svcb_pairs::check_params;
 use svcb_text::AllValuesRef;
 use svcb_value::parameter::split_param;
 use wire_base::{NoMemory, Octets, ParseError, Parser};
@@ -55,7 +55,7 @@ impl<'a> SvcParamsRef<'a> {
             (λ error. IsFaultOf error.0 (read_pairs slice.now)) }
         ensures octets { IfOk result (λ view. view.slice.now ≡ slice.now) }
     {
-        check(slice)?;
+        check_params(slice)?;
         Ok(SvcParamsRef { slice })
     }
 

@@ -1,45 +1,15 @@
-//! Edits the parameters of SVCB record data, from the standard input to the standard output.
+//! Edits the parameters of SVCB record data, from the standard input to the standard output. What a run does is
+//! [`edit_program::run`]'s.
 #![tactic(auto)]
 
 ghost use Rattle.std.specs.Prelude.{◌≡◌};
-ghost use Rattle.svcbedit.specs.RunErrors.{status_without_words};
+ghost use Rattle.edit_program.specs.RunErrors.{status_without_words};
 
-use command_lines::exit_status::ExitStatus;
 use devices::{StdSink, StdSource};
-use run::run;
+use edit_program::run::run;
+use input_lines::exit_status::ExitStatus;
 use std::process::ExitCode;
 use std::{env, io};
-
-#[cfg(test)]
-mod cds_tests;
-#[cfg(test)]
-mod choose_tests;
-mod commands;
-mod data_bounds;
-#[cfg(test)]
-mod device_tests;
-mod edit;
-mod generate;
-pub mod laws;
-#[cfg(test)]
-mod long_tests;
-mod pushes;
-mod report;
-mod run;
-mod run_error;
-mod scan;
-mod show;
-mod spelling;
-#[cfg(test)]
-mod tests;
-#[cfg(test)]
-mod text_tests;
-mod token_pushes;
-#[cfg(test)]
-mod type_tests;
-mod words;
-#[cfg(test)]
-mod zone_tests;
 
 /// The words after the program's name.
 fn given_words(rt: &HostRuntime) -> io::Result<Vec<String>> {

@@ -4,7 +4,7 @@ use Rattle.text_spec.specs.Scanning.{Scan, Answers}
 use Rattle.text_spec.specs.Tokens.{text_fault}
 use Rattle.record_spec.specs.UnionTexts.{union_scan}
 use Rattle.rdata_union.specs.Views.{data_of_zone}
-use Rattle.command_lines.proofs.TokenLemmas.{before, entry_answers}
+use Rattle.input_lines.proofs.TokenLemmas.{before, entry_answers}
 use Rattle.svcb_c.proofs.record_texts.scan_data.Goals as goal
 
 pub returns : goal.returns

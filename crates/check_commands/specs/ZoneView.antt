@@ -1,6 +1,0 @@
--- The zone that the program keeps, as its definition sees it.
-use Rattle.check_commands.specs.Zonemd as spec
-use Rattle.check_commands.specs.declared.zonemd.Zone.{Zone}
-
-abbrev pub zone_view : Zone → spec.Zone
-zone_view z = record { apex = z.apex; zonemd = z.zonemd; records = z.records.items }

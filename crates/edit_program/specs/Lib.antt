@@ -1,0 +1,17 @@
+pub mod Bounds
+pub mod TokenPushes
+pub mod Pushes
+pub mod Report
+pub mod Faults
+pub mod EditInput
+pub mod EditInputView
+pub mod Edit
+pub mod Show
+pub mod Scan
+pub mod Generate
+pub mod Words
+pub mod Commands
+pub mod Laws
+pub mod RunErrors
+pub mod Run
+pub mod Devices

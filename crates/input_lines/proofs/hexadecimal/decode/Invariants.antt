@@ -1,0 +1,10 @@
+use Rattle.std.proofs.Common.{◌≡◌, ◌*◌, take, drop}
+use Rattle.hex.specs.Hex.{decode_pairs}
+use Rattle.hex.proofs.Pairs.{prepend}
+use Rattle.input_lines.proofs.hexadecimal.decode.Given as goal
+
+-- the octets before this one are written
+abbrev pub invariant-loop-i : goal.invariant-loop-i
+invariant-loop-i l =
+    decode_pairs 0 l.digits
+    ≡ prepend (take l.i l.octets) (decode_pairs (2 * l.i) (drop (2 * l.i) l.digits))

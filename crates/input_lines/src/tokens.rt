@@ -1,0 +1,46 @@
+//! Lines that are the text of a zone file's entry with one token.
+ghost use Rattle.std.specs.Prelude.{◌≡◌, drop, slice_get, option_and_then};
+ghost use Rattle.input_lines.specs.Spelling.{line_or_fault, SpellsAs};
+ghost use Rattle.input_lines.specs.Tokens.{lone_token, lone_name, ReadsAs};
+
+use crate::faults::{InputFault, SpellError};
+use crate::lines::Lines;
+use dns_text::{Entry, EntryScanner, Scanner};
+use std::alloc::Global;
+use text_spec::ScanError;
+use wire_base::{Name, Octets};
+
+/// The octets of the token of a line that is an entry with exactly one. Any error but `NoMemory` says that it isn't.
+pub fn lone_token(alloc: Global, line: &[u8]) -> Result<Octets, ScanError>
+    ensures { ReadsAs (λ octets. octets) result (lone_token line.now) }
+{
+    let mut scanner = EntryScanner::new(Entry::from_text(line)?);
+    let octets = scanner.scan_octets(alloc)?;
+    scanner.check_end()?;
+    Ok(octets)
+}
+
+/// The name that the token of a line spells, where the line is an entry with exactly one. Any error but `NoMemory` says
+/// that there is none.
+pub fn lone_name(alloc: Global, line: &[u8]) -> Result<Name, ScanError>
+    ensures { ReadsAs (λ name. name) result (lone_name line.now) }
+{
+    let mut scanner = EntryScanner::new(Entry::from_text(line)?);
+    let name = scanner.scan_name(alloc)?;
+    scanner.check_end()?;
+    Ok(name)
+}
+
+/// Reads the next line, which has this number, as a name. `Fault` says that it is missing or bad.
+pub fn name_line(alloc: Global, input: &mut Lines<'_>, number: u64) -> Result<Name, SpellError>
+    ensures value { SpellsAs (λ name. name) result
+        (line_or_fault number (option_and_then lone_name (slice_get input.old 0))) }
+    ensures rest { input.new ≡ drop 1 input.old }
+{
+    let line = input.next().ok_or(InputFault::BadLine(number))?;
+    match lone_name(alloc, line) {
+        Ok(name) => Ok(name),
+        Err(ScanError::NoMemory) => Err(SpellError::NoMemory),
+        Err(_) => Err(SpellError::Fault(InputFault::BadLine(number))),
+    }
+}
