@@ -1,6 +1,7 @@
 pub mod Input
 pub mod Moving
 pub mod Faults
+pub mod ErrorTexts
 pub mod NameView
 pub mod NameParts
 pub mod Lending

@@ -45,6 +45,14 @@ impl<const N: usize> Address<N> {
     }
 }
 
+impl<const N: usize> From<[u8; N]> for Address<N> {
+    ghost from_gives = { λ octets address. address ≡ octets };
+
+    fn from(octets: [u8; N]) -> Address<N> {
+        Address(octets)
+    }
+}
+
 impl Ipv4Addr {
     /// The address that a text spells: four decimal numbers of at most 255 with dots between them, none with a leading
     /// zero, as `192.0.2.1`. None exactly for other texts.

@@ -1,39 +1,87 @@
 //! Why octets could not be read or written.
 
-ghost use Rattle.std.specs.Prelude.{◌≡◌, ◌+◌, ◌≤◌, ◌<◌, sum, codes, OnOk, OnErr};
+ghost use Rattle.std.specs.Prelude.{◌≡◌, ◌+◌, ◌≤◌, ◌<◌, sum, codes, Some, OnOk, OnErr};
+ghost use Rattle.wire_base.specs.ErrorTexts.{parse_error_text};
 ghost use Rattle.wire_base.specs.declared.errors.ParseError.TheVariants as errors;
 
 use std::alloc::{AllocError, AllocFailed};
-use thiserror::Error;
+use std::fmt;
 
 /// An allocation failed.
-#[derive(Clone, Copy, Debug, PartialEq, Eq, Error)]
-#[error("want of memory")]
+#[derive(Clone, Copy, Debug, PartialEq, Eq)]
 pub struct NoMemory;
 
 /// The data ends before the octets that a call reads.
-#[derive(Clone, Copy, Debug, PartialEq, Eq, Error)]
-#[error("short input")]
+#[derive(Clone, Copy, Debug, PartialEq, Eq)]
 pub struct ShortInput;
 
 /// Record data has more than 65,535 octets, which its length field of 16 bits can't hold (RFC 1035, section 3.2.1).
-#[derive(Clone, Copy, Debug, PartialEq, Eq, Error)]
-#[error("long record data")]
+#[derive(Clone, Copy, Debug, PartialEq, Eq)]
 pub struct LongRecordData;
 
 /// Why wire data could not be read.
-#[derive(Clone, Copy, Debug, PartialEq, Eq, Error)]
+#[derive(Clone, Copy, Debug, PartialEq, Eq)]
 pub enum ParseError {
     /// The data ends before the octets that are read.
-    #[error("short input")]
     ShortInput,
     /// An octet, a length, a pointer or two keys are not allowed, or octets are left over.
-    #[error("form error")]
     Form,
     /// The allocation of a copy failed. A call on a view never fails so.
-    #[error("want of memory")]
     NoMemory,
 }
+
+impl ParseError {
+    /// The text of the error, which `Display` writes too.
+    pub fn as_str(self) -> &'static str
+        ensures { result.now ≡ parse_error_text self }
+    {
+        match self {
+            ParseError::ShortInput => "short input",
+            ParseError::Form => "form error",
+            ParseError::NoMemory => "want of memory",
+        }
+    }
+}
+
+impl fmt::Display for ParseError {
+    ghost output = { λ error. Some (parse_error_text error) };
+
+    fn fmt<W: fmt::Write>(&self, f: &mut fmt::Formatter<W>) -> fmt::Result {
+        f.write_str(self.as_str())
+    }
+}
+
+impl fmt::Display for NoMemory {
+    ghost output = { λ _. Some (parse_error_text errors.NoMemory) };
+
+    fn fmt<W: fmt::Write>(&self, f: &mut fmt::Formatter<W>) -> fmt::Result {
+        f.write_str(ParseError::NoMemory.as_str())
+    }
+}
+
+impl fmt::Display for ShortInput {
+    ghost output = { λ _. Some (parse_error_text errors.ShortInput) };
+
+    fn fmt<W: fmt::Write>(&self, f: &mut fmt::Formatter<W>) -> fmt::Result {
+        f.write_str(ParseError::ShortInput.as_str())
+    }
+}
+
+impl fmt::Display for LongRecordData {
+    ghost output = { λ _. Some (codes "long record data") };
+
+    fn fmt<W: fmt::Write>(&self, f: &mut fmt::Formatter<W>) -> fmt::Result {
+        f.write_str(self.as_str())
+    }
+}
+
+impl std::error::Error for ParseError {}
+
+impl std::error::Error for NoMemory {}
+
+impl std::error::Error for ShortInput {}
+
+impl std::error::Error for LongRecordData {}
 
 impl From<AllocError> for NoMemory {
     fn from(_error: AllocError) -> NoMemory {

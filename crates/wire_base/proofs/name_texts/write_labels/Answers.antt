@@ -2,22 +2,21 @@ use Rattle.std.proofs.Common.{◌≡◌, List, ℕ, ◌∷◌, ◌++◌, refl, s
 use Rattle.std.proofs.Output.{has_written_append}
 use Rattle.name_spec.specs.Printed.{printed_label}
 use Rattle.wire_base.proofs.PrintedTexts.{dots_and_labels, first_then_others}
-use Rattle.wire_base.proofs.name_texts.NameDisplay.fmt.Goals as goal
+use Rattle.wire_base.proofs.name_texts.write_labels.Goals as goal
 
 pub loop-label-init : goal.loop-label-init
 loop-label-init g c = λ plain.
     let first = c.in-Some.first.now in
     let others = c.into_iter-label-iterator.result in
-    let name_is : c.args.self.now ≡ first ∷ others =
+    let name_is : c.args.labels ≡ first ∷ others =
     cc (
-      c.labels-labels.ensures.labels,
       c.in-Some.ensures.steps,
       c.into_iter-label-iterator.ensures.into_iter_gives,
     ) in
     record {
       text = printed_label first;
       wrote = c.in_ok-write.ensures.writes plain refl;
-      whole_is = first_then_others c.args.self.now others first name_is;
+      whole_is = first_then_others c.args.labels others first name_is;
     }
 
 pub loop-label-preserved : goal.loop-label-preserved
