@@ -2,8 +2,8 @@
 use Rattle.std.proofs.Common.{◌≡◌, ℕ, zero, suc, ◌+◌, ◌<◌, ◌≤◌, true, false, cond, ◌||◌, List, [], ◌∷◌, Option, Some, refl, sym, ap, ◌∙◌, subst, arith}
 use Rattle.std.specs.Prelude.{◌==◌, IsSomeAnd, slice_get}
 use Rattle.std.proofs.lemmas.Bool.Decides.{nat_tests}
+use Rattle.std.specs.List.{AllByRecursion}
 use Rattle.svcb_spec.specs.Records.{Record}
-use Rattle.svcb_spec.specs.Values.{Each}
 use Rattle.svcb_choose.specs.Usability.{is_usable}
 use Rattle.svcb_choose.specs.Choosing.{endpoint_of, endpoints_from}
 use Rattle.svcb_choose.specs.Choices.{is_usable_at, has_place, Ascend, HasParts, AreUsable}
@@ -94,7 +94,7 @@ module _ (owner : List (List ℕ)) (understood : List ℕ) (defaults : List (Lis
   -- `at` gives the record at each place from `start` on
   parts_from : (at : ℕ → Option Record) (start : ℕ) (records : List Record)
       → ((k : ℕ) → at (start + k) ≡ slice_get records k)
-      → Each (λ endpoint. IsSomeAnd (at endpoint.index) (λ found. HasParts owner found endpoint))
+      → AllByRecursion (λ endpoint. IsSomeAnd (at endpoint.index) (λ found. HasParts owner found endpoint))
       (endpoints_from owner understood defaults start records)
   parts_from at start [] same = tt
   parts_from at start (found ∷ others) same =
@@ -106,7 +106,7 @@ module _ (owner : List (List ℕ)) (understood : List ℕ) (defaults : List (Lis
       let is : at endpoint.index ≡ Some found =
       ap at (place_is start found) ∙ ap at first ∙ same 0 in
       elim (is_usable understood found.pairs) as
-      (λ b. Each (λ e. IsSomeAnd (at e.index) (λ f. HasParts owner f e))
+      (λ b. AllByRecursion (λ e. IsSomeAnd (at e.index) (λ f. HasParts owner f e))
       (cond b (endpoint ∷ behind) behind)) [
         | true ↦ (
           subst (λ o. IsSomeAnd o (λ f. HasParts owner f endpoint)) (sym is)

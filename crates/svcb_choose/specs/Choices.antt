@@ -1,8 +1,7 @@
 -- What a caller learns of a choice without its definition.
 use Rattle.std.specs.Prelude.{◌≡◌, ℕ, ◌+◌, ◌≤◌, ◌==◌, Bool, false, List, [], ◌∷◌, IsSomeAnd, slice_get}
-use Rattle.std.specs.List.{list_any}
+use Rattle.std.specs.List.{list_any, AllByRecursion}
 use Rattle.std.specs.Option.{option_map_or}
-use Rattle.svcb_spec.specs.Values.{Each}
 use Rattle.svcb_spec.specs.Records.{Record}
 use Rattle.svcb_choose.specs.Usability.{is_usable}
 use Rattle.svcb_choose.specs.Choosing.{port_of, target_of}
@@ -40,7 +39,7 @@ pub record AreUsable (owner : List (List ℕ)) (understood : List ℕ) (records 
   pub places : (place : ℕ)
       → has_place endpoints place ≡ is_usable_at understood records place
   pub in_order : Ascend 0 endpoints
-  pub parts : Each
+  pub parts : AllByRecursion
       (λ endpoint. IsSomeAnd (slice_get records endpoint.index)
       (λ found. HasParts owner found endpoint)) endpoints
 

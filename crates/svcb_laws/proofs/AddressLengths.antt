@@ -3,12 +3,11 @@
 use Rattle.std.proofs.Common.{◌≡◌, ℕ, zero, suc, ◌+◌, ◌*◌, ◌/◌, ◌%◌, ◌<◌, ◌≤◌, true, false, cond, List, [], ◌∷◌, ◌++◌, length, take, drop, codes, arith, length-append, length-drop, length-take}
 use Rattle.std.specs.Prelude.{slice_index, bytes_eq, nat_lt}
 use Rattle.std.specs.Char.{digit_char}
-use Rattle.std.specs.List.{flat_map}
+use Rattle.std.specs.List.{flat_map, AllByRecursion}
 use Rattle.std.specs.Net.Addr.{octets_of, segments_of}
 use Rattle.std.specs.Net.Text as net
 use Rattle.name_spec.specs.Addresses.{ipv4_text, ipv6_text}
 use Rattle.name_spec.specs.AddressLaws.{AreOctets}
-use Rattle.svcb_spec.specs.Values.{Each}
 use Rattle.svcb_spec.proofs.ItemLaws.{small_octets}
 use Rattle.svcb_laws.proofs.ReadOctets.{each_octet}
 use Rattle.svcb_laws.proofs.PieceLengths.{octet-length}
@@ -33,7 +32,7 @@ ipv4-length octets are =
 -- ---- segments
 
 abbrev AreSegments : List ℕ → Type 0
-AreSegments = Each (λ segment. segment < 65536)
+AreSegments = AllByRecursion (λ segment. segment < 65536)
 
 segments-small : (octets : List ℕ) → AreOctets octets → AreSegments (segments_of octets)
 segments-small [] are = tt

@@ -1,11 +1,11 @@
 -- Protocols are read back from their text.
 use Rattle.std.proofs.Common.{◌≡◌, ℕ, zero, suc, ◌<◌, ◌≤◌, true, false, cond, List, [], ◌∷◌, ◌++◌, map, length, codes, Option, Some, None, Ok, Err, refl, sym, ap, ◌∙◌, arith, append-nil, length-append}
 use Rattle.std.specs.Prelude.{◌==◌, nat_lt}
-use Rattle.std.specs.List.{join_with_byte}
+use Rattle.std.specs.List.{join_with_byte, AllByRecursion}
 use Rattle.std.proofs.lemmas.Bool.Decides.{nat_tests}
 use Rattle.name_spec.specs.Printed.{printed_octets}
 use Rattle.name_spec.specs.AddressLaws.{AreOctets}
-use Rattle.svcb_spec.specs.Values.{Alpn, encode, Each}
+use Rattle.svcb_spec.specs.Values.{Alpn, encode}
 use Rattle.text_spec.specs.declared.errors.ScanError.TheVariants.{BadListEscape, EmptyItem, LongItem}
 use Rattle.svcb_spec.specs.ListTexts.{◌>>=◌, is_escaped_in_item, escaped_item, ItemRead, onto_item, read_item, some_octets}
 use Rattle.svcb_spec.specs.ValueTexts.{short_item, protocol_item, protocols_step, protocols_within, protocols_of, short_value}
@@ -77,7 +77,7 @@ unfolding protocols_within
 protocols_within-step count text = refl
 
 protocols_within-join : (count : ℕ) (protocol : List ℕ) (protocols : List (List ℕ))
-    → length (protocol ∷ protocols) ≤ count → Each IsProtocol (protocol ∷ protocols)
+    → length (protocol ∷ protocols) ≤ count → AllByRecursion IsProtocol (protocol ∷ protocols)
     → protocols_within count (join_with_byte 44 (map escaped_item (protocol ∷ protocols)))
     ≡ Ok (protocol ∷ protocols)
 protocols_within-join zero protocol protocols enough are = absurd (omega arith)
@@ -109,7 +109,7 @@ enough_octets protocol (next ∷ protocols) =
 
 -- escaped protocols with commas between them are read back
 pub protocols_of-join : (protocol : List ℕ) (protocols : List (List ℕ))
-    → Each IsProtocol (protocol ∷ protocols)
+    → AllByRecursion IsProtocol (protocol ∷ protocols)
     → protocols_of (join_with_byte 44 (map escaped_item (protocol ∷ protocols)))
     ≡ Ok (protocol ∷ protocols)
 protocols_of-join protocol protocols are =
@@ -137,8 +137,8 @@ some-escaped (c ∷ item) some =
       | false ↦ omega arith
     ]
 
-bare-protocols : (protocols : List (List ℕ)) → Each AreOctets protocols
-    → Each (λ protocol. IsBareText (printed_octets (escaped_item protocol))
+bare-protocols : (protocols : List (List ℕ)) → AllByRecursion AreOctets protocols
+    → AllByRecursion (λ protocol. IsBareText (printed_octets (escaped_item protocol))
     (escaped_item protocol)) protocols
 bare-protocols [] are = tt
 bare-protocols (protocol ∷ protocols) are = (
@@ -148,7 +148,7 @@ bare-protocols (protocol ∷ protocols) are = (
 )
 
 pub alpn_again : (protocol : List ℕ) (protocols : List (List ℕ))
-    → Each IsProtocol (protocol ∷ protocols) → Each AreOctets (protocol ∷ protocols)
+    → AllByRecursion IsProtocol (protocol ∷ protocols) → AllByRecursion AreOctets (protocol ∷ protocols)
     → length (encode (Alpn (protocol ∷ protocols))) < 65536
     → IsValueText (value_printed (Alpn (protocol ∷ protocols))) (Alpn (protocol ∷ protocols))
 alpn_again protocol protocols are octets few =

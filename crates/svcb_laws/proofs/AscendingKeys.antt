@@ -1,11 +1,10 @@
 -- Keys in ascending order are the same keys, each above the one before it.
 use Rattle.std.proofs.Common.{◌≡◌, ℕ, ◌<◌, Bool, true, false, cond, not, ◌&&◌, ◌||◌, IsPermutation, List, [], ◌∷◌, refl, sym, ap, ◌∙◌, arith}
 use Rattle.std.specs.Prelude.{◌==◌, nat_lt, nat_le}
-use Rattle.std.specs.List.{list_any}
+use Rattle.std.specs.List.{list_any, AllByRecursion}
 use Rattle.std.proofs.lemmas.Bool.{and_parts}
 use Rattle.std.proofs.lemmas.Bool.Decides.{nat_tests}
 use Rattle.std.proofs.lemmas.List.Sorted.{IsPermutation-refl, IsPermutation-trans, IsPermutation-cons, IsPermutation-middle, list_any-IsPermutation}
-use Rattle.svcb_spec.specs.Values.{Each}
 use Rattle.svcb_spec.specs.ValueTexts.{insert_ascending, in_ascending_order}
 use Rattle.svcb_spec.specs.PrintedParams.{ascends_above, are_distinct}
 use Rattle.svcb_laws.specs.ParamTextLaws.{AscendingKeys}
@@ -87,7 +86,7 @@ not_listed : (b : Bool) → not b ≡ true → b ≡ false
 not_listed true is = absurd cc
 not_listed false is = refl
 
-order-ascends : (keys : List ℕ) → Each (λ key. 0 < key) keys → are_distinct keys ≡ true
+order-ascends : (keys : List ℕ) → AllByRecursion (λ key. 0 < key) keys → are_distinct keys ≡ true
     → ascends_above 0 (in_ascending_order keys) ≡ true
 order-ascends [] each distinct = refl
 order-ascends (key ∷ keys) each distinct =

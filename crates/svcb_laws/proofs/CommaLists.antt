@@ -1,9 +1,8 @@
 -- A text is split at its commas into exactly the items that give it back with commas between them.
 use Rattle.std.proofs.Common.{◌≡◌, ◌≢◌, ℕ, ◌<◌, true, false, cond, List, [], ◌∷◌, ◌++◌, length, refl, sym, ap, subst, ◌∙◌, arith}
 use Rattle.std.specs.Prelude.{◌==◌}
-use Rattle.std.specs.List.{join_with_byte}
+use Rattle.std.specs.List.{join_with_byte, AllByRecursion}
 use Rattle.std.proofs.lemmas.Bool.Decides.{nat_tests}
-use Rattle.svcb_spec.specs.Values.{Each}
 use Rattle.svcb_spec.specs.ListTexts.{onto_piece, comma_pieces, comma_items}
 use Rattle.svcb_spec.proofs.CommaPieces.{some_pieces}
 use Rattle.svcb_laws.specs.ParamTextLaws.{HasNoComma, CommaItemsExact}
@@ -27,7 +26,7 @@ comma_pieces-last (c ∷ item) none =
     ap (λ b. cond b ([] ∷ comma_pieces item) (onto_piece c (comma_pieces item))) (no_comma c none.0)
     ∙ ap (onto_piece c) (comma_pieces-last item none.1)
 
-comma_pieces-join : (item : List ℕ) (items : List (List ℕ)) → Each HasNoComma (item ∷ items)
+comma_pieces-join : (item : List ℕ) (items : List (List ℕ)) → AllByRecursion HasNoComma (item ∷ items)
     → comma_pieces (join_with_byte 44 (item ∷ items)) ≡ item ∷ items
 comma_pieces-join item [] none = comma_pieces-last item none.0
 comma_pieces-join item (next ∷ items) none =
@@ -39,7 +38,7 @@ comma_items-some [] some = absurd (omega arith)
 comma_items-some (c ∷ text) some = refl
 
 -- joined items are split
-comma_items-join : (item : List ℕ) (items : List (List ℕ)) → Each HasNoComma (item ∷ items)
+comma_items-join : (item : List ℕ) (items : List (List ℕ)) → AllByRecursion HasNoComma (item ∷ items)
     → 0 < length (join_with_byte 44 (item ∷ items))
     → comma_items (join_with_byte 44 (item ∷ items)) ≡ item ∷ items
 comma_items-join item items none some =
@@ -53,8 +52,8 @@ onto_piece-join c [] = refl
 onto_piece-join c (piece ∷ []) = refl
 onto_piece-join c (piece ∷ next ∷ pieces) = refl
 
-onto_piece-no_comma : (c : ℕ) (pieces : List (List ℕ)) → c ≢ 44 → Each HasNoComma pieces
-    → Each HasNoComma (onto_piece c pieces)
+onto_piece-no_comma : (c : ℕ) (pieces : List (List ℕ)) → c ≢ 44 → AllByRecursion HasNoComma pieces
+    → AllByRecursion HasNoComma (onto_piece c pieces)
 onto_piece-no_comma c [] other none = ((other, tt), tt)
 onto_piece-no_comma c (piece ∷ pieces) other none = ((other, none.0), none.1)
 
@@ -65,14 +64,14 @@ behind_comma (piece ∷ pieces) some = refl
 
 -- the pieces give the text back, and none of them has a comma
 pieces-exact : (text : List ℕ) → (join_with_byte 44 (comma_pieces text) ≡ text)
-    × Each HasNoComma (comma_pieces text)
+    × AllByRecursion HasNoComma (comma_pieces text)
 pieces-exact [] = (refl, (tt, tt))
 pieces-exact (c ∷ text) =
     let behind = pieces-exact text in
     elim (c == 44) as (λ b. (c == 44) ≡ b
     → (join_with_byte 44 (cond b ([] ∷ comma_pieces text) (onto_piece c (comma_pieces text)))
     ≡ c ∷ text)
-    × Each HasNoComma (cond b ([] ∷ comma_pieces text) (onto_piece c (comma_pieces text)))) [
+    × AllByRecursion HasNoComma (cond b ([] ∷ comma_pieces text) (onto_piece c (comma_pieces text)))) [
       | true ↦ λ is.
           let comma : c ≡ 44 = grind (arith, nat_tests) in (
             behind_comma (comma_pieces text) (some_pieces text)
@@ -89,14 +88,14 @@ pieces-exact (c ∷ text) =
           )
     ] refl
 
-comma_items-are : (text : List ℕ) → Each HasNoComma (comma_items text)
+comma_items-are : (text : List ℕ) → AllByRecursion HasNoComma (comma_items text)
     × (text ≡ join_with_byte 44 (comma_items text))
     × (0 < length (comma_items text) → 0 < length text)
 comma_items-are [] = (tt, refl, λ some. some)
 comma_items-are (c ∷ text) = let are = pieces-exact (c ∷ text)
     in (are.1, sym are.0, λ some. omega arith)
 
-comma_items-of : (text : List ℕ) (items : List (List ℕ)) → Each HasNoComma items
+comma_items-of : (text : List ℕ) (items : List (List ℕ)) → AllByRecursion HasNoComma items
     → text ≡ join_with_byte 44 items → (0 < length items → 0 < length text)
     → comma_items text ≡ items
 comma_items-of text [] none joined some = ap comma_items joined
@@ -107,7 +106,7 @@ comma_items-of text (item ∷ items) none joined some =
 
 pub comma_items_exact : CommaItemsExact
 comma_items_exact text items = (
-  λ split. subst (λ (is : List (List ℕ)). Each HasNoComma is × (text ≡ join_with_byte 44 is)
+  λ split. subst (λ (is : List (List ℕ)). AllByRecursion HasNoComma is × (text ≡ join_with_byte 44 is)
       × (0 < length is → 0 < length text)) split (comma_items-are text),
   λ are. comma_items-of text items are.0 are.1 are.2,
 )

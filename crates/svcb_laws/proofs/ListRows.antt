@@ -3,10 +3,11 @@ use Rattle.std.proofs.Common.{◌≡◌, ℕ, ◌^◌, ◌<◌, true, false, con
 use Rattle.std.specs.Prelude.{◌==◌, ◌↔◌}
 use Rattle.std.specs.Option.{ok_or}
 use Rattle.std.proofs.lemmas.Bool.Decides.{nat_tests}
+use Rattle.std.specs.List.{AllByRecursion}
 use Rattle.name_spec.specs.Addresses.{ipv4_of, ipv6_of}
 use Rattle.registry.specs.Keys.{parameter_keys}
 use Rattle.registry.specs.Texts.{spelled_key, spelled_number}
-use Rattle.svcb_spec.specs.Values.{Value, Mandatory, Alpn, Ipv4Hint, Ipv6Hint, TlsSupportedGroups, Each}
+use Rattle.svcb_spec.specs.Values.{Value, Mandatory, Alpn, Ipv4Hint, Ipv6Hint, TlsSupportedGroups}
 use Rattle.text_spec.specs.declared.errors.ScanError.TheVariants.{UnknownKey, BadNumber, BadAddress, KeyZeroInMandatory}
 use Rattle.svcb_spec.specs.ListTexts.{◌>>=◌, comma_items, read_items}
 use Rattle.svcb_spec.specs.ValueTexts.{new_item, other_key, mandatory_item, group_item, address_item, in_ascending_order, some_text, protocols_of, short_value}
@@ -60,7 +61,7 @@ hints_exact = (hint_exact ipv4_of Ipv4Hint, hint_exact ipv6_of Ipv6Hint)
 abbrev IsAnyNumber : ℕ → Type 0
 IsAnyNumber n = Unit {0}
 
-each_number : (numbers : List ℕ) → Each IsAnyNumber numbers
+each_number : (numbers : List ℕ) → AllByRecursion IsAnyNumber numbers
 each_number [] = tt
 each_number (n ∷ numbers) = (tt, each_number numbers)
 

@@ -1,8 +1,8 @@
 -- Lists of items with commas between them are split into their items, and the items are read back.
 use Rattle.std.proofs.Common.{◌≡◌, ◌≢◌, ℕ, ◌<◌, true, List, [], ◌∷◌, ◌++◌, map, length, Result, Ok, refl, sym, ap, ◌∙◌, arith, append_assoc, append-nil}
-use Rattle.std.specs.List.{join_with_byte}
+use Rattle.std.specs.List.{join_with_byte, AllByRecursion}
 use Rattle.std.proofs.lemmas.Bool.Decides.{nat_tests}
-use Rattle.svcb_spec.specs.Values.{Value, encode, Each}
+use Rattle.svcb_spec.specs.Values.{Value, encode}
 use Rattle.text_spec.specs.declared.errors.ScanError.{ScanError}
 use Rattle.svcb_spec.specs.ListTexts.{◌>>=◌, comma_items, plain_item, read_items}
 use Rattle.svcb_spec.specs.ValueTexts.{some_text, short_value}
@@ -18,7 +18,7 @@ use Rattle.svcb_laws.proofs.ItemTexts.{is_item_octet, AreOfItem, IsItemText, Are
 
 -- the octets of texts that are joined are joined likewise
 bare-join : {A : Type 0} (text octets : A → List ℕ) (items : List A)
-    → Each (λ item. IsBareText (text item) (octets item)) items
+    → AllByRecursion (λ item. IsBareText (text item) (octets item)) items
     → IsBareText (join_with_byte 44 (map text items)) (join_with_byte 44 (map octets items))
 bare-join text octets [] are = bare-plain [] tt
 bare-join text octets (item ∷ []) are = are.0
@@ -32,7 +32,7 @@ bare-join text octets (item ∷ next ∷ items) are =
 -- a key and items are wholly a token, which spells what stands behind the key
 pub items_again : {A : Type 0} (key : List ℕ) (text octets : A → List ℕ) (item : A)
     (items : List A) (value : Value) → AreOfKey key
-    → Each (λ item. IsBareText (text item) (octets item)) (item ∷ items)
+    → AllByRecursion (λ item. IsBareText (text item) (octets item)) (item ∷ items)
     → value_behind key (join_with_byte 44 (map octets (item ∷ items))) ≡ Ok value
     → IsValueText (with_items key (map text (item ∷ items))) value
 items_again key text octets item items value are bare spelled =
@@ -83,7 +83,7 @@ read_items_again rule print before (item ∷ items) back =
     ∙ ap Ok (append_assoc before (item ∷ []) items)
 
 plain_items : {A : Type 0} (print : A → List ℕ) (items : List A)
-    → Each (λ item. IsItemText (print item)) items → Each IsPlainItem (map print items)
+    → AllByRecursion (λ item. IsItemText (print item)) items → AllByRecursion IsPlainItem (map print items)
 plain_items print [] are = tt
 plain_items print (item ∷ items) are =
     (IsItemText-plain (print item) are.0, plain_items print items are.1)
@@ -91,7 +91,7 @@ plain_items print (item ∷ items) are =
 -- what a list of printed items is read as
 pub list_again : {A : Type 0} (rule : List A → List ℕ → Result A ScanError) (print : A → List ℕ)
     (make : List A → Value) (item : A) (items : List A)
-    → Each (λ item. IsItemText (print item)) (item ∷ items)
+    → AllByRecursion (λ item. IsItemText (print item)) (item ∷ items)
     → IsReadBack rule print [] (item ∷ items) → length (encode (make (item ∷ items))) < 65536
     → (some_text (join_with_byte 44 (map print (item ∷ items)))
     >>= λ list. read_items rule [] (comma_items list) >>= λ xs. short_value (make xs))
@@ -110,8 +110,8 @@ list_again rule print make item items are back few =
 
 -- the texts of plain items are bare
 pub bare-items : {A : Type 0} (print : A → List ℕ) (items : List A)
-    → Each (λ item. IsItemText (print item)) items
-    → Each (λ item. IsBareText (print item) (print item)) items
+    → AllByRecursion (λ item. IsItemText (print item)) items
+    → AllByRecursion (λ item. IsBareText (print item) (print item)) items
 bare-items print [] are = tt
 bare-items print (item ∷ items) are =
     (bare-plain (print item) (ArePlain-item (print item) are.0.1), bare-items print items are.1)

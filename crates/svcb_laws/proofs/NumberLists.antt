@@ -1,11 +1,10 @@
 -- Numbers of which none stands twice, and the rule that tells each from those before it.
 use Rattle.std.proofs.Common.{◌≡◌, ℕ, Bool, true, false, cond, not, ◌||◌, List, [], ◌∷◌, ◌++◌, Ok, Err, refl, sym, ap, ◌∙◌, arith}
 use Rattle.std.specs.Prelude.{◌==◌}
-use Rattle.std.specs.List.{list_any}
+use Rattle.std.specs.List.{list_any, AllByRecursion}
 use Rattle.std.proofs.lemmas.Bool.{and_parts, and_from, or_parts}
 use Rattle.std.proofs.lemmas.Bool.Decides.{nat_tests}
 use Rattle.std.proofs.lemmas.List.Folds.{list_any-append}
-use Rattle.svcb_spec.specs.Values.{Each}
 use Rattle.text_spec.specs.declared.errors.ScanError.TheVariants.{DuplicateItem}
 use Rattle.svcb_spec.specs.ValueTexts.{new_item}
 use Rattle.svcb_spec.specs.PrintedParams.{are_distinct}
@@ -15,7 +14,7 @@ abbrev pub is_in : List ℕ → ℕ → Bool
 is_in numbers n = list_any (λ m. m == n) numbers
 
 abbrev AreNew : List ℕ → List ℕ → Type 0
-AreNew before numbers = Each (λ n. is_in before n ≡ false) numbers
+AreNew before numbers = AllByRecursion (λ n. is_in before n ≡ false) numbers
 
 pub or_false : (a b : Bool) → a ≡ false → b ≡ false → (a || b) ≡ false
 or_false a b is is' = rw is is'
@@ -71,7 +70,7 @@ abbrev pub IsNew : (ℕ → Type 0) → List ℕ → ℕ → Type 0
 IsNew P before n = P n × (is_in before n ≡ false)
 
 all_new-apart : (P : ℕ → Type 0) (before numbers : List ℕ) → AllNew (IsNew P) before numbers
-    → Each P numbers × AreNew before numbers × (are_distinct numbers ≡ true)
+    → AllByRecursion P numbers × AreNew before numbers × (are_distinct numbers ≡ true)
 all_new-apart P before [] new = (tt, tt, refl)
 all_new-apart P before (n ∷ numbers) new =
     let rest = all_new-apart P (before ++ n ∷ []) numbers new.1 in
@@ -84,10 +83,10 @@ all_new-apart P before (n ∷ numbers) new =
 
 -- numbers that are each new to those before them are distinct
 pub all_new-distinct : (P : ℕ → Type 0) (numbers : List ℕ) → AllNew (IsNew P) [] numbers
-    → Each P numbers × (are_distinct numbers ≡ true)
+    → AllByRecursion P numbers × (are_distinct numbers ≡ true)
 all_new-distinct P numbers new = let apart = all_new-apart P [] numbers new in (apart.0, apart.2)
 
-apart-all_new : (P : ℕ → Type 0) (before numbers : List ℕ) → Each P numbers → AreNew before numbers
+apart-all_new : (P : ℕ → Type 0) (before numbers : List ℕ) → AllByRecursion P numbers → AreNew before numbers
     → are_distinct numbers ≡ true → AllNew (IsNew P) before numbers
 apart-all_new P before [] are new distinct = tt
 apart-all_new P before (n ∷ numbers) are new distinct =
@@ -99,7 +98,7 @@ apart-all_new P before (n ∷ numbers) are new distinct =
     )
 
 -- and distinct numbers are
-pub distinct-all_new : (P : ℕ → Type 0) (numbers : List ℕ) → Each P numbers
+pub distinct-all_new : (P : ℕ → Type 0) (numbers : List ℕ) → AllByRecursion P numbers
     → are_distinct numbers ≡ true → AllNew (IsNew P) [] numbers
 distinct-all_new P numbers are distinct =
     apart-all_new P [] numbers are (none_before numbers) distinct

@@ -1,9 +1,10 @@
 -- Pairs of a map are read back from their texts.
 use Rattle.std.proofs.Common.{◌≡◌, ℕ, zero, suc, ◌+◌, ◌<◌, true, false, cond, Contains, List, [], ◌∷◌, length, refl, sym, arith, subst}
+use Rattle.std.specs.List.{AllByRecursion}
 use Rattle.name_spec.specs.AddressLaws.{AreOctets}
 use Rattle.svcb_spec.specs.Params.{Pair, Pairs, Ascends}
 use Rattle.svcb_spec.specs.ReadingValues.{value_in}
-use Rattle.svcb_spec.specs.Values.{Value, Unknown, key_of, encode, Each, IsValue}
+use Rattle.svcb_spec.specs.Values.{Value, Unknown, key_of, encode, IsValue}
 use Rattle.svcb_spec.proofs.ValueLaws.{IsIn, values_in_octets}
 use Rattle.svcb_spec.specs.PrintedValues.{value_printed, opaque_text}
 use Rattle.svcb_spec.specs.PrintedParams.{has_own_text, pair_printed}
@@ -24,7 +25,7 @@ pub record IsPairText (text : List ℕ) (pair : Pair) (value : Value) : Type 0 w
   pub key : key_of value ≡ pair.0
   pub octets : encode value ≡ pair.1
 
-each_octet : (octets : List ℕ) → AreOctets octets → Each (λ octet. octet < 256) octets
+each_octet : (octets : List ℕ) → AreOctets octets → AllByRecursion (λ octet. octet < 256) octets
 each_octet [] are = tt
 each_octet (c ∷ octets) are = (are.0, each_octet octets are.1)
 

@@ -2,12 +2,12 @@
 -- `params_again`, `has_tokens-spaced` and `tokens_of_texts`.
 use Rattle.std.proofs.Common.{◌≡◌, ℕ, ◌+◌, ◌<◌, ◌≤◌, true, false, cond, ◌&&◌, ◌||◌, List, [], ◌∷◌, ◌++◌, map, length, Result, Ok, Err, refl, sym, ap, ap₂, ◌∙◌, subst, arith, append_assoc, append-nil, add-zero, zero-add}
 use Rattle.std.specs.Prelude.{◌==◌, nat_le}
-use Rattle.std.specs.List.{list_all, join_with_byte}
+use Rattle.std.specs.List.{list_all, join_with_byte, AllByRecursion}
 use Rattle.std.proofs.Math.Seq.{drop-append_seam}
 use Rattle.std.proofs.lemmas.Bool.Decides.{nat_tests}
 use Rattle.svcb_spec.specs.Params.{Pair, Pairs, Ascends}
 use Rattle.svcb_spec.specs.ReadingValues.{value_in}
-use Rattle.svcb_spec.specs.Values.{Value, Mandatory, Alpn, NoDefaultAlpn, Port, Ipv4Hint, Ech, Ipv6Hint, DohPath, Ohttp, TlsSupportedGroups, Unknown, key_of, encode, Each}
+use Rattle.svcb_spec.specs.Values.{Value, Mandatory, Alpn, NoDefaultAlpn, Port, Ipv4Hint, Ech, Ipv6Hint, DohPath, Ohttp, TlsSupportedGroups, Unknown, key_of, encode}
 use Rattle.std.proofs.lemmas.Bool.{and_parts}
 use Rattle.text_spec.specs.declared.errors.ScanError.{ScanError}
 use Rattle.text_spec.specs.declared.errors.ScanError.TheVariants.{DuplicateKey, MandatoryMissing}
@@ -119,7 +119,7 @@ module _ (pairs : Pairs) where
 
   -- all keys are below a number
   abbrev AreBelow : ℕ → List Value → Type 0
-  AreBelow least values = Each (λ value. key_of value < least) values
+  AreBelow least values = AllByRecursion (λ value. key_of value < least) values
 
   not_key : (n key least : ℕ) → n < least → least ≤ key → (n == key) ≡ false
   not_key n key least below above = grind (arith, nat_tests)

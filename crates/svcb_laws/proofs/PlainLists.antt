@@ -2,11 +2,11 @@
 -- spell.
 use Rattle.std.proofs.Common.{◌≡◌, ◌≢◌, ℕ, ◌<◌, true, false, cond, ◌||◌, List, [], ◌∷◌, ◌++◌, map, length, Option, Some, None, Result, Ok, Err, refl, sym, ap, subst, ◌∙◌, arith, append_assoc, append-nil, length-append}
 use Rattle.std.specs.Prelude.{◌==◌, ◌↔◌, nat_lt}
-use Rattle.std.specs.List.{list_any, join_with_byte}
+use Rattle.std.specs.List.{list_any, join_with_byte, AllByRecursion}
 use Rattle.std.specs.Option.{ok_or}
 use Rattle.std.proofs.lemmas.Bool.{or_parts}
 use Rattle.std.proofs.lemmas.Bool.Decides.{nat_tests}
-use Rattle.svcb_spec.specs.Values.{Value, encode, Each}
+use Rattle.svcb_spec.specs.Values.{Value, encode}
 use Rattle.text_spec.specs.declared.errors.ScanError.{ScanError}
 use Rattle.text_spec.specs.declared.errors.ScanError.TheVariants.{BadListEscape, EmptyItem, LongValue}
 use Rattle.svcb_spec.specs.ListTexts.{◌>>=◌, comma_items, plain_item, read_items}
@@ -83,12 +83,12 @@ AllNew New before [] = Unit {0}
 AllNew New before (x ∷ xs) = New before x × AllNew New (before ++ x ∷ []) xs
 
 pub Each-map : {A : Type 0} (P Q : A → Type 0) (items : List A) → ((item : A) → P item → Q item)
-    → Each P items → Each Q items
+    → AllByRecursion P items → AllByRecursion Q items
 Each-map P Q [] f are = tt
 Each-map P Q (item ∷ items) f are = (f item are.0, Each-map P Q items f are.1)
 
-both_plain : (items : List (List ℕ)) → Each HasNoComma items → Each IsUnescaped items
-    → Each IsPlainItem items
+both_plain : (items : List (List ℕ)) → AllByRecursion HasNoComma items → AllByRecursion IsUnescaped items
+    → AllByRecursion IsPlainItem items
 both_plain [] none are = tt
 both_plain (item ∷ items) none are = ((are.0.0, none.0, are.0.1), both_plain items none.1 are.1)
 
@@ -148,7 +148,7 @@ items-split text items is =
     )
 
 -- what is split into items that have no escapes is a text of these items
-list-split : (text : List ℕ) → 0 < length text → Each IsUnescaped (comma_items text)
+list-split : (text : List ℕ) → 0 < length text → AllByRecursion IsUnescaped (comma_items text)
     → IsPlainList text (comma_items text)
 list-split text some are =
     let split = (comma_items_exact text (comma_items text)).0 refl in (
@@ -165,7 +165,7 @@ module _ {A : Type 0} (rule : List A → List ℕ → Result A ScanError) (reads
     → (rule before item ≡ Ok x) ↔ (IsUnescaped item × (reads item ≡ Some x) × New before x)) where
   read_items-ok : (before : List A) (items : List (List ℕ)) (all : List A)
       → read_items rule before items ≡ Ok all
-      → (xs : List A) × (all ≡ before ++ xs) × Each IsUnescaped items
+      → (xs : List A) × (all ≡ before ++ xs) × AllByRecursion IsUnescaped items
       × (map reads items ≡ map Some xs) × AllNew New before xs
   read_items-ok before [] all is = let same : before ≡ all = cc
       in ([], sym same ∙ sym (append-nil before), tt, refl, tt)
@@ -182,7 +182,7 @@ module _ {A : Type 0} (rule : List A → List ℕ → Result A ScanError) (reads
       )
 
   read_items-from : (before : List A) (items : List (List ℕ)) (xs : List A)
-      → Each IsUnescaped items → map reads items ≡ map Some xs → AllNew New before xs
+      → AllByRecursion IsUnescaped items → map reads items ≡ map Some xs → AllNew New before xs
       → read_items rule before items ≡ Ok (before ++ xs)
   read_items-from before [] [] are read new = ap Ok (sym (append-nil before))
   read_items-from before [] (x ∷ xs) are read new = absurd cc

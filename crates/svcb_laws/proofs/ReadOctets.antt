@@ -3,13 +3,12 @@
 use Rattle.std.proofs.Common.{◌≡◌, ℕ, zero, suc, ◌+◌, ◌-◌, ◌<◌, Bool, true, false, cond, List, [], ◌∷◌, take, drop, Option, None, Some, Result, Ok, Err, refl, sym, subst, arith}
 use Rattle.std.proofs.lemmas.Bool.Decides.{nat_tests}
 use Rattle.std.specs.Prelude.{slice_range, slice_index, nat_lt, nat_le, ◌==◌, not, ◌||◌, ◌%◌, ◌*◌}
-use Rattle.std.specs.List.{flat_map}
+use Rattle.std.specs.List.{flat_map, AllByRecursion}
 use Rattle.name_spec.specs.Names.{NameRead, Reading, with_label, by_pointer, label_step, pointer_step, name_step, name_within, name_at}
 use Rattle.name_spec.specs.Octets.{Fault, Short, Form, number_at}
 use Rattle.name_spec.specs.AddressLaws.{AreOctets}
 use Rattle.svcb_spec.specs.Params.{Pair, Pairs, is_above, with_pair, pair_step, pairs_step, pairs_within, pairs_at}
 use Rattle.svcb_spec.specs.Records.{Record, IsRecord, read}
-use Rattle.svcb_spec.specs.Values.{Each}
 use Rattle.svcb_laws.specs.ParamTextLaws.{HaveOctets}
 use Rattle.svcb_laws.specs.DataTextLaws.{IsRecordOfOctets}
 use Rattle.svcb_laws.proofs.DataOctets.{octets_joined}
@@ -153,7 +152,7 @@ module _ (message : List ℕ) (end : ℕ) (are : AreOctets message) where
 
 -- ---- records
 
-pub each_octet : (octets : List ℕ) → AreOctets octets → Each (λ octet. octet < 256) octets
+pub each_octet : (octets : List ℕ) → AreOctets octets → AllByRecursion (λ octet. octet < 256) octets
 each_octet [] are = tt
 each_octet (c ∷ octets) are = (are.0, each_octet octets are.1)
 

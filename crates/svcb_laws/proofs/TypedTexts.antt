@@ -2,7 +2,7 @@
 use Rattle.std.proofs.Common.{◌≡◌, ℕ, zero, suc, ◌^◌, ◌<◌, true, false, cond, not, List, [], ◌∷◌, ◌++◌, length, codes, Option, Some, Result, Ok, Err, refl, sym, ap, ◌∙◌, subst, arith}
 use Rattle.std.specs.Prelude.{◌==◌, nat_lt, nat_le}
 use Rattle.std.specs.Fmt.{decimal}
-use Rattle.std.specs.List.{concat, list_all}
+use Rattle.std.specs.List.{concat, list_all, AllByRecursion}
 use Rattle.std.specs.Option.{ok_or}
 use Rattle.std.specs.Str.{is_utf8, IsAscii}
 use Rattle.std.proofs.lemmas.Bool.{and_parts, and_from}
@@ -17,7 +17,7 @@ use Rattle.registry.specs.Keys.{parameter_keys}
 use Rattle.registry.specs.Texts.{spelled_key, spelled_number}
 use Rattle.registry.specs.KeyLaws.{spelled_key-printed_key}
 use Rattle.registry.specs.TextLaws.{spelled_number-decimal}
-use Rattle.svcb_spec.specs.Values.{Mandatory, NoDefaultAlpn, Port, Ipv4Hint, Ech, Ipv6Hint, DohPath, Ohttp, TlsSupportedGroups, encode, Each}
+use Rattle.svcb_spec.specs.Values.{Mandatory, NoDefaultAlpn, Port, Ipv4Hint, Ech, Ipv6Hint, DohPath, Ohttp, TlsSupportedGroups, encode}
 use Rattle.text_spec.specs.declared.errors.ScanError.{ScanError}
 use Rattle.text_spec.specs.declared.errors.ScanError.TheVariants.{UnknownKey, BadNumber, BadAddress, BadBase64, BadPort, KeyZeroInMandatory, BadUtf8}
 use Rattle.text_spec.specs.Encodings.{base64_of, base64_text}
@@ -132,8 +132,8 @@ address_again address print before item is read =
     ∙ ap (λ (o : Option (List ℕ)). ok_or o BadAddress) read
 
 addresses_back : (address : List ℕ → Option (List ℕ)) (print : List ℕ → List ℕ)
-    (before items : List (List ℕ)) → Each (λ item. IsItemText (print item)) items
-    → Each (λ item. address (print item) ≡ Some item) items
+    (before items : List (List ℕ)) → AllByRecursion (λ item. IsItemText (print item)) items
+    → AllByRecursion (λ item. address (print item) ≡ Some item) items
     → IsReadBack (address_item address) print before items
 addresses_back address print before [] are read = tt
 addresses_back address print before (item ∷ items) are read = (
@@ -149,8 +149,8 @@ octets-front (c ∷ front) behind are = let rest = octets-front front behind are
     in ((are.0, rest.0), rest.1)
 
 -- items of octets
-each_octets : (P : List ℕ → Type 0) (items : List (List ℕ)) → Each P items
-    → AreOctets (concat items) → Each (λ item. P item × AreOctets item) items
+each_octets : (P : List ℕ → Type 0) (items : List (List ℕ)) → AllByRecursion P items
+    → AreOctets (concat items) → AllByRecursion (λ item. P item × AreOctets item) items
 each_octets P [] have are = tt
 each_octets P (item ∷ items) have are = let both = octets-front item (concat items) are
     in ((have.0, both.0), each_octets P items have.1 both.1)
@@ -160,7 +160,7 @@ abbrev IsAddress : ℕ → List ℕ → Type 0
 IsAddress len item = (length item ≡ len) × AreOctets item
 
 pub ipv4hint_again : (address : List ℕ) (addresses : List (List ℕ))
-    → Each (λ item. length item ≡ 4) (address ∷ addresses)
+    → AllByRecursion (λ item. length item ≡ 4) (address ∷ addresses)
     → AreOctets (concat (address ∷ addresses))
     → length (concat (address ∷ addresses)) < 65536
     → IsValueText (value_printed (Ipv4Hint (address ∷ addresses)))
@@ -177,7 +177,7 @@ ipv4hint_again address addresses four are few =
     (addresses_back ipv4_of ipv4_text [] (address ∷ addresses) texts read) few)
 
 pub ipv6hint_again : (address : List ℕ) (addresses : List (List ℕ))
-    → Each (λ item. length item ≡ 16) (address ∷ addresses)
+    → AllByRecursion (λ item. length item ≡ 16) (address ∷ addresses)
     → AreOctets (concat (address ∷ addresses))
     → length (concat (address ∷ addresses)) < 65536
     → IsValueText (value_printed (Ipv6Hint (address ∷ addresses)))
@@ -216,7 +216,7 @@ group_again before n small new =
     (spelled_number-decimal 65536 n small (omega arith))
     ∙ new_again before n new
 
-pub groups_again : (group : ℕ) (groups : List ℕ) → Each (λ n. n < 65536) (group ∷ groups)
+pub groups_again : (group : ℕ) (groups : List ℕ) → AllByRecursion (λ n. n < 65536) (group ∷ groups)
     → are_distinct (group ∷ groups) ≡ true
     → length (encode (TlsSupportedGroups (group ∷ groups))) < 65536
     → IsValueText (value_printed (TlsSupportedGroups (group ∷ groups)))
@@ -298,14 +298,14 @@ ascending_again least (key ∷ keys) ascends =
 listed_above : (n key : ℕ) → nat_lt n key ≡ true → 0 < key
 listed_above n key above = grind (arith, nat_tests)
 
-listed_keys : (least : ℕ) (keys : List ℕ) → Each (λ key. key < 65536) keys
-    → ascends_above least keys ≡ true → Each IsListedKey keys
+listed_keys : (least : ℕ) (keys : List ℕ) → AllByRecursion (λ key. key < 65536) keys
+    → ascends_above least keys ≡ true → AllByRecursion IsListedKey keys
 listed_keys least [] small ascends = tt
 listed_keys least (key ∷ keys) small ascends =
     let parts = and_parts (nat_lt least key) (ascends_above key keys) ascends in
     ((listed_above least key parts.0, small.0), listed_keys key keys small.1 parts.1)
 
-pub mandatory_value_again : (key : ℕ) (keys : List ℕ) → Each (λ key. key < 65536) (key ∷ keys)
+pub mandatory_value_again : (key : ℕ) (keys : List ℕ) → AllByRecursion (λ key. key < 65536) (key ∷ keys)
     → ascends_above 0 (key ∷ keys) ≡ true
     → length (encode (Mandatory (key ∷ keys))) < 65536
     → IsValueText (value_printed (Mandatory (key ∷ keys))) (Mandatory (key ∷ keys))

@@ -1,14 +1,14 @@
 -- How long the texts of values and of pairs are.
 use Rattle.std.proofs.Common.{◌≡◌, ℕ, ◌+◌, ◌*◌, ◌<◌, ◌≤◌, true, false, cond, List, [], ◌∷◌, map, length, codes, sym, subst, arith, length-append}
 use Rattle.std.specs.Fmt.{decimal}
-use Rattle.std.specs.List.{concat}
+use Rattle.std.specs.List.{concat, AllByRecursion}
 use Rattle.std.specs.Str.{is_utf8}
 use Rattle.name_spec.specs.Printed.{printed_octets}
 use Rattle.name_spec.specs.Addresses.{ipv4_text, ipv6_text}
 use Rattle.name_spec.specs.AddressLaws.{AreOctets}
 use Rattle.svcb_spec.specs.Params.{Pair, Pairs}
 use Rattle.svcb_spec.specs.ReadingValues.{value_in}
-use Rattle.svcb_spec.specs.Values.{Value, Mandatory, Alpn, NoDefaultAlpn, Port, Ipv4Hint, Ech, Ipv6Hint, DohPath, Ohttp, TlsSupportedGroups, Unknown, encode, numbers16_wire, protocols_wire, Each, HasItems}
+use Rattle.svcb_spec.specs.Values.{Value, Mandatory, Alpn, NoDefaultAlpn, Port, Ipv4Hint, Ech, Ipv6Hint, DohPath, Ohttp, TlsSupportedGroups, Unknown, encode, numbers16_wire, protocols_wire, HasItems}
 use Rattle.svcb_spec.proofs.ValueLaws.{IsIn, values_in_octets}
 use Rattle.text_spec.specs.Encodings.{base64_text}
 use Rattle.svcb_spec.specs.ListTexts.{escaped_item}
@@ -21,7 +21,7 @@ use Rattle.svcb_laws.proofs.PieceLengths.{octets-length, item-length, number-len
 
 -- ---- items, each with a separator
 
-keys-length : (keys : List ℕ) → Each (λ key. key < 65536) keys
+keys-length : (keys : List ℕ) → AllByRecursion (λ key. key < 65536) keys
     → room (map key_name keys) ≤ 11 * length (numbers16_wire keys)
 keys-length [] small = omega arith
 keys-length (key ∷ keys) small =
@@ -29,7 +29,7 @@ keys-length (key ∷ keys) small =
     let others = keys-length keys small.1 in
     omega arith
 
-groups-length : (groups : List ℕ) → Each (λ group. group < 65536) groups
+groups-length : (groups : List ℕ) → AllByRecursion (λ group. group < 65536) groups
     → room (map decimal groups) ≤ 11 * length (numbers16_wire groups)
 groups-length [] small = omega arith
 groups-length (group ∷ groups) small =
@@ -49,7 +49,7 @@ protocols-length (protocol ∷ protocols) =
     let others = protocols-length protocols in
     omega (arith, escaped, first, others, length-append protocol (protocols_wire protocols))
 
-ipv4s-length : (addresses : List (List ℕ)) → Each (λ address. length address ≡ 4) addresses
+ipv4s-length : (addresses : List (List ℕ)) → AllByRecursion (λ address. length address ≡ 4) addresses
     → AreOctets (concat addresses)
     → room (map ipv4_text addresses) ≤ 11 * length (concat addresses)
 ipv4s-length [] four are = omega arith
@@ -60,7 +60,7 @@ ipv4s-length (address ∷ addresses) four are =
     let others = ipv4s-length addresses four.1 parts.1 in
     omega (arith, own, first, others, length-append address (concat addresses))
 
-ipv6s-length : (addresses : List (List ℕ)) → Each (λ address. length address ≡ 16) addresses
+ipv6s-length : (addresses : List (List ℕ)) → AllByRecursion (λ address. length address ≡ 16) addresses
     → AreOctets (concat addresses)
     → room (map ipv6_text addresses) ≤ 11 * length (concat addresses)
 ipv6s-length [] sixteen are = omega arith

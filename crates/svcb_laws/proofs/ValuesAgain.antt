@@ -1,16 +1,16 @@
 -- Values are read back from their texts.
 use Rattle.std.proofs.Common.{◌≡◌, ℕ, ◌<◌, true, List, [], ◌∷◌, length, arith}
-use Rattle.std.specs.List.{list_all}
+use Rattle.std.specs.List.{list_all, AllByRecursion}
 use Rattle.std.proofs.lemmas.Bool.{and_parts}
 use Rattle.name_spec.specs.AddressLaws.{AreOctets}
-use Rattle.svcb_spec.specs.Values.{Mandatory, Alpn, NoDefaultAlpn, Port, Ipv4Hint, Ech, Ipv6Hint, DohPath, Ohttp, TlsSupportedGroups, Unknown, protocols_wire, Each}
+use Rattle.svcb_spec.specs.Values.{Mandatory, Alpn, NoDefaultAlpn, Port, Ipv4Hint, Ech, Ipv6Hint, DohPath, Ohttp, TlsSupportedGroups, Unknown, protocols_wire}
 use Rattle.svcb_spec.specs.PrintedParams.{holds_key, ascends_above, has_some}
 use Rattle.svcb_laws.specs.ParamTextLaws.{TypedReadBack, IsProtocol}
 use Rattle.svcb_laws.proofs.TypedTexts.{no_default_alpn_again, ohttp_again, port_again, ech_again, dohpath_again, octets-front, ipv4hint_again, ipv6hint_again, groups_again, mandatory_value_again}
 use Rattle.svcb_laws.proofs.AlpnTexts.{alpn_again}
 
 protocols_octets : (protocols : List (List ℕ)) → AreOctets (protocols_wire protocols)
-    → Each AreOctets protocols
+    → AllByRecursion AreOctets protocols
 protocols_octets [] are = tt
 protocols_octets (protocol ∷ protocols) are =
     let both = octets-front (length protocol ∷ protocol) (protocols_wire protocols) are in
@@ -20,8 +20,8 @@ some_of : (item : List ℕ) → has_some item ≡ true → 0 < length item
 some_of [] some = absurd cc
 some_of (c ∷ item) some = omega arith
 
-are_protocols : (protocols : List (List ℕ)) → Each (λ protocol. length protocol < 256) protocols
-    → list_all has_some protocols ≡ true → Each IsProtocol protocols
+are_protocols : (protocols : List (List ℕ)) → AllByRecursion (λ protocol. length protocol < 256) protocols
+    → list_all has_some protocols ≡ true → AllByRecursion IsProtocol protocols
 are_protocols [] short some = tt
 are_protocols (protocol ∷ protocols) short some =
     let both = and_parts (has_some protocol) (list_all has_some protocols) some in (

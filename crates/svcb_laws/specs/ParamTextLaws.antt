@@ -1,13 +1,13 @@
 -- Laws of the texts of service parameters, which the functions of `src/laws.rt` state.
 use Rattle.std.specs.Prelude.{◌≡◌, ◌≢◌, ◌↔◌, ℕ, ◌+◌, ◌^◌, ◌<◌, true, List, [], ◌∷◌, ◌++◌, length, map, Contains, IsPermutation, Option, Some, Ok}
-use Rattle.std.specs.List.{join_with_byte}
+use Rattle.std.specs.List.{join_with_byte, AllByRecursion}
 use Rattle.name_spec.specs.Addresses.{ipv4_of, ipv6_of}
 use Rattle.name_spec.specs.AddressLaws.{AreOctets}
 use Rattle.registry.specs.Keys.{parameter_keys}
 use Rattle.registry.specs.Texts.{spelled_key, spelled_number}
 use Rattle.svcb_spec.specs.BuildingValues.{IsProtocolLength}
 use Rattle.svcb_spec.specs.Params.{Pair, Pairs, IsMap}
-use Rattle.svcb_spec.specs.Values.{Value, Mandatory, Alpn, Ipv4Hint, Ipv6Hint, TlsSupportedGroups, Unknown, key_of, encode, Each, IsValue}
+use Rattle.svcb_spec.specs.Values.{Value, Mandatory, Alpn, Ipv4Hint, Ipv6Hint, TlsSupportedGroups, Unknown, key_of, encode, IsValue}
 use Rattle.text_spec.specs.declared.lexeme.Symbol.{Symbol}
 use Rattle.text_spec.specs.Pieces.{HasTokens, IsTokenText}
 use Rattle.text_spec.specs.Scanning.{octets_of, done}
@@ -36,7 +36,7 @@ TypedReadBack = (pairs : Pairs) (value : Value) → IsValue value → AreOctets 
 
 -- the octets of the pairs are octets
 abbrev pub HaveOctets : Pairs → Type 0
-HaveOctets pairs = Each (λ pair. AreOctets pair.1) pairs
+HaveOctets pairs = AllByRecursion (λ pair. AreOctets pair.1) pairs
 
 -- the text of a pair of a map spells a value of its key and its octets
 abbrev pub PairReadBack : Type 0
@@ -77,19 +77,19 @@ AnyTokenOrder = (front tokens others : List (List Symbol)) (pairs : Pairs) (end 
 
 -- no octet of the text is a comma
 abbrev pub HasNoComma : List ℕ → Type 0
-HasNoComma text = Each (λ c. c ≢ 44) text
+HasNoComma text = AllByRecursion (λ c. c ≢ 44) text
 
 -- A text has these items exactly where none of them has a comma and they are the text with commas
 -- between them. No octets have no items, not one that is empty.
 abbrev pub CommaItemsExact : Type 0
 CommaItemsExact = (text : List ℕ) (items : List (List ℕ))
     → (comma_items text ≡ items)
-    ↔ (Each HasNoComma items × (text ≡ join_with_byte 44 items)
+    ↔ (AllByRecursion HasNoComma items × (text ≡ join_with_byte 44 items)
     × (0 < length items → 0 < length text))
 
 -- no octet of the text is a backslash
 abbrev pub HasNoBackslash : List ℕ → Type 0
-HasNoBackslash text = Each (λ c. c ≢ 92) text
+HasNoBackslash text = AllByRecursion (λ c. c ≢ 92) text
 
 -- the text of an item in which nothing may be escaped
 abbrev pub IsPlainItem : List ℕ → Type 0
@@ -97,7 +97,7 @@ IsPlainItem item = (0 < length item) × HasNoComma item × HasNoBackslash item
 
 -- these items, at least one, are the text with commas between them
 abbrev pub IsPlainList : List ℕ → List (List ℕ) → Type 0
-IsPlainList text items = (0 < length items) × Each IsPlainItem items
+IsPlainList text items = (0 < length items) × AllByRecursion IsPlainItem items
     × (text ≡ join_with_byte 44 items)
 
 -- the items of the text spell these things in turn, by what reads one
@@ -114,7 +114,7 @@ IsShort made value = (value ≡ made) × (length (encode made) < 65536)
 abbrev pub MandatoryExact : Type 0
 MandatoryExact = (text : List ℕ) (value : Value) → (value_of_text 0 text ≡ Ok value)
     ↔ ((keys : List ℕ) × IsListOf (spelled_key parameter_keys) text keys
-    × Each (λ key. 0 < key) keys × (are_distinct keys ≡ true)
+    × AllByRecursion (λ key. 0 < key) keys × (are_distinct keys ≡ true)
     × IsShort (Mandatory (in_ascending_order keys)) value)
 
 -- the keys of `others` ascend above 0, and are those of `keys`
@@ -124,7 +124,7 @@ pub record AreAscending (keys others : List ℕ) : Type 0 where
 
 -- distinct keys other than 0 in ascending order are the same keys, each above the one before it
 abbrev pub AscendingKeys : Type 0
-AscendingKeys = (keys : List ℕ) → Each (λ key. 0 < key) keys → are_distinct keys ≡ true
+AscendingKeys = (keys : List ℕ) → AllByRecursion (λ key. 0 < key) keys → are_distinct keys ≡ true
     → AreAscending keys (in_ascending_order keys)
 
 -- a text spells addresses under a key exactly where its items do
@@ -150,7 +150,7 @@ IsProtocol protocol = IsProtocolLength (length protocol)
 
 -- these protocols, at least one, are the text, each in its escaped form, with commas between them
 abbrev pub IsProtocolList : List ℕ → List (List ℕ) → Type 0
-IsProtocolList text protocols = (0 < length protocols) × Each IsProtocol protocols
+IsProtocolList text protocols = (0 < length protocols) × AllByRecursion IsProtocol protocols
     × (text ≡ join_with_byte 44 (map escaped_item protocols))
 
 -- A text has these protocols exactly where it is their list: a protocol has one form there, and no

@@ -1,12 +1,12 @@
 -- Octets that are made of items.
 use Rattle.std.proofs.Common.{◌≡◌, ℕ, ◌*◌, ◌%◌, ◌/◌, ◌<◌, ◌≤◌, true, false, List, [], ◌∷◌, ◌++◌, length, refl, sym, ap, ◌∙◌, arith, append-nil, ◌+◌, length-append, zero-mul, suc-mul, add_comm}
 use Rattle.std.specs.Prelude.{nat_lt, is_none, ◌==◌}
-use Rattle.std.specs.List.{flat_map}
+use Rattle.std.specs.List.{flat_map, AllByRecursion}
 use Rattle.std.proofs.Math.Nat.{mul-mod_left, le-div_iff_mul-le}
 use Rattle.std.proofs.lemmas.List.Concat.{concat_is, flat_map-append}
 use Rattle.std.proofs.lemmas.Bool.Decides.{nat_tests}
 use Rattle.name_spec.specs.Octets.{be2}
-use Rattle.svcb_spec.specs.Values.{Each, numbers16_wire, protocols_wire}
+use Rattle.svcb_spec.specs.Values.{numbers16_wire, protocols_wire}
 use Rattle.svcb_spec.specs.ReadingValues.{parts, numbers, protocols, are_whole, parts_fault, groups_fault}
 use Rattle.svcb_spec.proofs.ItemLaws.{parts-concat, numbers-numbers_wire, length-numbers_wire, protocols-protocols_wire, protocols_wire-whole}
 use Rattle.svcb_list.proofs.PartLemmas.{whole_is, parts_encoded}
@@ -15,7 +15,7 @@ use Rattle.svcb_list.specs.Pushing.{AreProtocols}
 
 -- octets of items that have as many octets each
 octets_len : {X : Type 0} (f : X → List ℕ) (len : ℕ) (xs : List X)
-    → Each (λ x. length (f x) ≡ len) xs → length (flat_map f xs) ≡ length xs * len
+    → AllByRecursion (λ x. length (f x) ≡ len) xs → length (flat_map f xs) ≡ length xs * len
 octets_len f len [] are = sym (zero-mul len)
 octets_len f len (x ∷ xs) are =
     length-append (f x) (flat_map f xs) ∙ ap (λ n. n + length (flat_map f xs)) are.0
@@ -24,7 +24,7 @@ octets_len f len (x ∷ xs) are =
 
 -- they are whole items, and few enough where the items are
 pub are_items : {X : Type 0} (f : X → List ℕ) (len : ℕ) (xs : List X) (octets : List ℕ)
-    → octets ≡ flat_map f xs → Each (λ x. length (f x) ≡ len) xs
+    → octets ≡ flat_map f xs → AllByRecursion (λ x. length (f x) ≡ len) xs
     → 0 < len → length xs ≤ 65535 / len → AreItems f len xs octets
 are_items f len xs octets is each not_empty few =
     let count : length octets ≡ length xs * len = ap length is ∙ octets_len f len xs each in

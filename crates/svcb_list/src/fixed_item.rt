@@ -1,9 +1,8 @@
 //! The octets of items of one length.
 
 ghost use Rattle.std.specs.Prelude.{◌≡◌, ◌*◌, ◌<◌, ◌≤◌, ℕ, List, ◌++◌, length, IfOk, OnOk};
-ghost use Rattle.std.specs.List.{flat_map};
+ghost use Rattle.std.specs.List.{flat_map, AllByRecursion};
 ghost use Rattle.name_spec.specs.Octets.{be2};
-ghost use Rattle.svcb_spec.specs.Values.{Each};
 ghost use Rattle.svcb_spec.specs.BuildingValues.{IsBuilt};
 ghost use Rattle.svcb_list.specs.Building.{AreItems};
 
@@ -87,7 +86,7 @@ pub(crate) fn compose_items<I: FixedItem>(
 fn append_items<I: FixedItem>(alloc: Global, items: &[I]) -> Result<Vec<u8>, NoMemory>
     requires { length items.now * I.LEN ≤ 65535 }
     ensures joined { IfOk result (λ octets. octets.items ≡ flat_map I.octets items.now) }
-    ensures each { OnOk result (Each (λ item. length (I.octets item) ≡ I.LEN) items.now) }
+    ensures each { OnOk result (AllByRecursion (λ item. length (I.octets item) ≡ I.LEN) items.now) }
 {
     let mut octets = Vec::with_capacity(alloc, items.len() * I::LEN)?;
     for item in items {

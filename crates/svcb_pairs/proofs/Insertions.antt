@@ -1,7 +1,7 @@
 -- Entries and pairs that are put among others by their keys.
 use Rattle.std.proofs.Common.{◌≡◌, ◌≢◌, ℕ, ◌<◌, ◌≤◌, Bool, true, false, cond, ◌&&◌, ◌||◌, List, [], ◌∷◌, ◌++◌, Option, Some, None, refl, sym, ap, ◌∙◌, arith, inl, inr, Less, Equal, Greater}
 use Rattle.std.specs.Prelude.{◌==◌, nat_le, is_some}
-use Rattle.std.specs.List.{list_all}
+use Rattle.std.specs.List.{list_all, AllByRecursion}
 use Rattle.std.specs.Ordering.{nat_cmp}
 use Rattle.std.specs.Cmp.{nat_cmp_is}
 use Rattle.std.specs.BTreeMap.{is_at, insert_entry}
@@ -9,7 +9,7 @@ use Rattle.std.specs.Map.{lookup}
 use Rattle.std.proofs.lemmas.Bool.{cases_lt, cases_eq}
 use Rattle.std.proofs.lemmas.Bool.Decides.{nat_tests}
 use Rattle.svcb_spec.specs.Params.{Pair, Pairs, value_at}
-use Rattle.svcb_spec.specs.Values.{Value, Each, key_of, encode}
+use Rattle.svcb_spec.specs.Values.{Value, key_of, encode}
 use Rattle.svcb_text.specs.declared.all_values.AllValues.{AllValues}
 use Rattle.svcb_text.specs.AllValues.{value_of}
 use Rattle.svcb_spec.specs.ParamTexts.{has_key, insert_pair, map_of}
@@ -70,7 +70,7 @@ module _ {X : Type 0} (key : ℕ) (x : X) (entry : ℕ × X) (entries : List (�
 -- what holds of each entry, behind one of a new key
 pub each-insert : {X : Type 0} (P : ℕ × X → Type 0) (key : ℕ) (x : X) (entries : List (ℕ × X))
     → lookup (is_at (nat_cmp key)) entries ≡ None
-    → P (key, x) → Each P entries → Each P (insert_entry nat_cmp entries key x)
+    → P (key, x) → AllByRecursion P entries → AllByRecursion P (insert_entry nat_cmp entries key x)
 each-insert P key x [] absent here each = (here, tt)
 each-insert P key x (entry ∷ entries) absent here each = elim (cases_lt key entry.0) [
   | inl below ↦ rw (insert_before key x entry entries below) (here, each)

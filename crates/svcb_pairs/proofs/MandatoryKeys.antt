@@ -1,12 +1,12 @@
 -- The keys that a list of mandatory keys names, among the values that a map holds.
 use Rattle.std.proofs.Common.{◌≡◌, ◌≢◌, ℕ, ◌+◌, ◌<◌, Bool, true, false, ◌&&◌, List, [], ◌∷◌, Option, Some, None, refl, sym, ap, ap₂, ◌∙◌, arith, inl, inr}
-use Rattle.std.specs.List.{list_all}
+use Rattle.std.specs.List.{list_all, AllByRecursion}
 use Rattle.std.specs.Ordering.{nat_cmp}
 use Rattle.std.specs.BTreeMap.{is_at}
 use Rattle.std.specs.Map.{lookup}
 use Rattle.std.proofs.lemmas.Bool.{cases_eq}
 use Rattle.svcb_spec.specs.Params.{Ascends}
-use Rattle.svcb_spec.specs.Values.{Value, Each, key_of}
+use Rattle.svcb_spec.specs.Values.{Value, key_of}
 use Rattle.svcb_spec.specs.Values as values
 use Rattle.svcb_text.specs.declared.all_values.AllValues.{AllValues}
 use Rattle.svcb_text.specs.declared.all_values_ref.AllValuesRef.{AllValuesRef}
@@ -58,7 +58,7 @@ module _ (test : Value → Bool) (elsewhere : (value : Value) → key_of value �
     tested entry = test (value_of entry.1)
 
     abbrev AreKeyed : Entries → Type 0
-    AreKeyed entries = Each (λ entry. entry.0 ≡ key_of (value_of entry.1)) entries
+    AreKeyed entries = AllByRecursion (λ entry. entry.0 ≡ key_of (value_of entry.1)) entries
 
     -- the test of a value under a key, where there is one
     abbrev tested_at : Option AllValues → Bool

@@ -1,11 +1,11 @@
 -- The values that the tokens read so far spell, and the map that holds them by their keys.
 use Rattle.std.specs.Prelude.{◌≡◌, ℕ, ◌+◌, Bool, true, if◌then◌else◌, List, [], ◌∷◌, ◌++◌, map, Some, None, is_some, is_ok, Result, Ok, Err}
-use Rattle.std.specs.List.{list_all}
+use Rattle.std.specs.List.{list_all, AllByRecursion}
 use Rattle.std.specs.Ordering.{nat_cmp}
 use Rattle.std.specs.BTreeMap.{is_at}
 use Rattle.std.specs.Map.{lookup}
 use Rattle.svcb_spec.specs.Params.{Pair, Pairs, IsMap}
-use Rattle.svcb_spec.specs.Values.{Value, Each, key_of, encode}
+use Rattle.svcb_spec.specs.Values.{Value, key_of, encode}
 use Rattle.svcb_text.specs.declared.all_values.AllValues.{AllValues}
 use Rattle.svcb_text.specs.AllValues.{value_of}
 use Rattle.text_spec.specs.declared.errors.ScanError.{ScanError}
@@ -31,7 +31,7 @@ pub record Holds (values : List Value) (entries : Entries) : Type 0 where
   pub pairs : pairs_of entries ≡ map_of values
   pub all : (test : Value → Bool) → list_all (λ entry. test (value_of entry.1)) entries
       ≡ list_all test values
-  pub keyed : Each (λ entry. entry.0 ≡ key_of (value_of entry.1)) entries
+  pub keyed : AllByRecursion (λ entry. entry.0 ≡ key_of (value_of entry.1)) entries
   pub is_map : IsMap (pairs_of entries)
 
 -- ---- one value more

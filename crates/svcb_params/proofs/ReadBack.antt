@@ -2,9 +2,10 @@
 use Rattle.std.proofs.Common.{◌≡◌, true, List, [], ◌∷◌, ◌++◌, Some, Result, Ok, Err, IsOk, ap, ◌∙◌}
 use Rattle.std.proofs.lemmas.Bool.{false≢true}
 use Rattle.std.specs.Result.{result_ok}
+use Rattle.std.specs.List.{AllByRecursion}
 use Rattle.name_spec.specs.Octets.{Fault}
 use Rattle.svcb_spec.specs.Params.{Pairs}
-use Rattle.svcb_spec.specs.Values.{Value, Each, key_of, encode, IsValue, is_own_type}
+use Rattle.svcb_spec.specs.Values.{Value, key_of, encode, IsValue, is_own_type}
 use Rattle.svcb_spec.specs.ReadingValues.{take_value, whole_taken}
 use Rattle.svcb_spec.proofs.RebuildLaws.{value_at-put}
 use Rattle.svcb_spec.proofs.ValueLaws.{values_read_back}
@@ -29,7 +30,7 @@ with_item-append (Ok value) all front back ok is = ap (λ others. Ok value ∷ o
 with_item-append (Err fault) all front back ok is = absurd (false≢true ok)
 
 pub read_through : (front back : Pairs) (value : Value) → IsValue value → is_own_type value ≡ true
-    → Each (λ pair. IsOk (whole_taken pair.1 (take_value pair.0 pair.1))) front
+    → AllByRecursion (λ pair. IsOk (whole_taken pair.1 (take_value pair.0 pair.1))) front
     → all_items (front ++ (key_of value, encode value) ∷ back)
     ≡ all_items front ++ Ok value ∷ all_items back
 read_through [] back value is own read =

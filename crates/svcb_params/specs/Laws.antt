@@ -1,8 +1,9 @@
 -- Laws of service parameters.
 use Rattle.std.specs.Prelude.{◌≡◌, ◌*◌, ◌<◌, ◌≤◌, ◌↔◌, ◌==◌, ◌++◌, ℕ, true, List, ◌∷◌, length, Some, Result, Ok, IsOk}
+use Rattle.std.specs.List.{AllByRecursion}
 use Rattle.name_spec.specs.Octets.{Fault}
 use Rattle.svcb_spec.specs.Params.{Pairs, wire, IsMap, pairs_wire}
-use Rattle.svcb_spec.specs.Values.{Value, Each, key_of, encode, IsValue, is_own_type}
+use Rattle.svcb_spec.specs.Values.{Value, key_of, encode, IsValue, is_own_type}
 use Rattle.name_spec.specs.Taking.{Taken}
 use Rattle.svcb_spec.specs.ReadingValues.{take_value, whole_taken}
 use Rattle.svcb_pairs.specs.Parameters.{read_pairs}
@@ -12,7 +13,7 @@ use Rattle.svcb_pairs.specs.Pushing.{with_value}
 
 -- octets are read as pairs exactly where they are these pairs, joined, and the keys ascend strictly
 abbrev pub ParametersAreLists : Type 0
-ParametersAreLists = (octets : List ℕ) (pairs : Pairs) → Each (λ octet. octet < 256) octets
+ParametersAreLists = (octets : List ℕ) (pairs : Pairs) → AllByRecursion (λ octet. octet < 256) octets
     → read_pairs octets ≡ Ok pairs ↔ ((octets ≡ pairs_wire pairs) × IsMap pairs)
 
 -- equal maps have equal octets, and equal octets are of equal maps
@@ -38,6 +39,6 @@ PushedRead = (builder : BuilderState) (value : Value) → IsValue value → is_o
 -- a value of its key's type is read among all values where each pair in front of it has a value
 abbrev pub AllReadThrough : Type 0
 AllReadThrough = (front back : Pairs) (value : Value) → IsValue value → is_own_type value ≡ true
-    → Each (λ pair. IsOk (whole_taken pair.1 (take_value pair.0 pair.1))) front
+    → AllByRecursion (λ pair. IsOk (whole_taken pair.1 (take_value pair.0 pair.1))) front
     → all_items (front ++ (key_of value, encode value) ∷ back)
     ≡ all_items front ++ Ok value ∷ all_items back

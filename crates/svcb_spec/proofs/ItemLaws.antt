@@ -6,15 +6,15 @@ use Rattle.std.proofs.Math.Seq.{drop-append_seam, take-append_seam}
 use Rattle.std.proofs.lemmas.List.{take-append-drop}
 use Rattle.std.proofs.lemmas.Bool.{cases_lt}
 use Rattle.std.specs.Prelude.{slice_index}
-use Rattle.std.specs.List.{concat}
+use Rattle.std.specs.List.{concat, AllByRecursion}
 use Rattle.name_spec.specs.Octets.{be2}
-use Rattle.svcb_spec.specs.Values.{Each, numbers16_wire, protocols_wire}
+use Rattle.svcb_spec.specs.Values.{numbers16_wire, protocols_wire}
 use Rattle.svcb_spec.specs.ReadingValues.{octets_number, parts_behind, parts, numbers, protocols_behind, protocols, are_whole_behind, are_whole}
 
 -- ---- octets
 
 abbrev pub AreOctets : List ℕ → Type 0
-AreOctets = Each (λ octet. octet < 256)
+AreOctets = AllByRecursion (λ octet. octet < 256)
 
 -- what a slice of octets is known to hold
 pub are_octets : (octets : List ℕ) → ((i : ℕ) → slice_index octets i < 256) → AreOctets octets
@@ -81,7 +81,7 @@ pub concat-parts : (len : ℕ) (octets : List ℕ) → 0 < len → concat (parts
 concat-parts len octets some = concat-parts_behind len 0 octets some
 
 parts_have : (len count : ℕ) (octets : List ℕ) → 0 < len → length octets ≤ count
-    → length octets % len ≡ 0 → Each (λ part. length part ≡ len) (parts len octets)
+    → length octets % len ≡ 0 → AllByRecursion (λ part. length part ≡ len) (parts len octets)
 parts_have len count [] some few whole = tt
 parts_have len zero (octet ∷ octets) some few whole = absurd (omega arith)
 parts_have len (suc count) (octet ∷ octets) some few whole =
@@ -90,13 +90,13 @@ parts_have len (suc count) (octet ∷ octets) some few whole =
     length-drop len (octet ∷ octets) in
     let others = parts_have len count (drop len (octet ∷ octets)) some (omega (arith, split.0))
     (ap (λ n. n % len) rest ∙ split.1) in
-    subst (Each (λ part. length part ≡ len))
+    subst (AllByRecursion (λ part. length part ≡ len))
     (sym (parts-first len (octet ∷ octets) some (omega arith)))
     (omega (arith, length-take len (octet ∷ octets), split.0), others)
 
 -- each part has its length
 pub parts-each : (len : ℕ) (octets : List ℕ) → 0 < len → length octets % len ≡ 0
-    → Each (λ part. length part ≡ len) (parts len octets)
+    → AllByRecursion (λ part. length part ≡ len) (parts len octets)
 parts-each len octets some whole = parts_have len (length octets) octets some (omega arith) whole
 
 some_octets : (len : ℕ) (item others : List ℕ) → 0 < len → length item ≡ len
@@ -105,7 +105,7 @@ some_octets len item others some is = omega (arith, length-append item others)
 
 -- items of one length, joined, have the items as their parts
 pub parts-concat : (len : ℕ) (items : List (List ℕ)) → 0 < len
-    → Each (λ item. length item ≡ len) items → parts len (concat items) ≡ items
+    → AllByRecursion (λ item. length item ≡ len) items → parts len (concat items) ≡ items
 parts-concat len [] some are = refl
 parts-concat len (item ∷ items) some are =
     parts-first len (item ++ concat items) some (some_octets len item (concat items) some are.0)
@@ -116,7 +116,7 @@ parts-concat len (item ∷ items) some are =
     ∙ ap (λ rest. item ∷ parts len rest) (drop-append_seam item (concat items))
     ∙ ap (λ rest. item ∷ rest) (parts-concat len items some are.1)
 
-pub length-concat : (len : ℕ) (items : List (List ℕ)) → Each (λ item. length item ≡ len) items
+pub length-concat : (len : ℕ) (items : List (List ℕ)) → AllByRecursion (λ item. length item ≡ len) items
     → length (concat items) ≡ length items * len
 length-concat len [] are = sym (zero-mul len)
 length-concat len (item ∷ items) are =
@@ -126,7 +126,7 @@ length-concat len (item ∷ items) are =
 
 -- items of one length, joined, are whole parts
 pub concat-whole : (len : ℕ) (items : List (List ℕ)) → 0 < len
-    → Each (λ item. length item ≡ len) items → length (concat items) % len ≡ 0
+    → AllByRecursion (λ item. length item ≡ len) items → length (concat items) % len ≡ 0
 concat-whole len [] some are = mod-eq_of_lt some
 concat-whole len (item ∷ items) some are =
     ap (λ n. n % len)
@@ -159,7 +159,7 @@ be2s : (numbers : List ℕ) → concat (map be2 numbers) ≡ numbers16_wire numb
 be2s [] = refl
 be2s (n ∷ ns) = ap (λ rest. be2 n ++ rest) (be2s ns)
 
-be2s_have : (numbers : List ℕ) → Each (λ item. length item ≡ 2) (map be2 numbers)
+be2s_have : (numbers : List ℕ) → AllByRecursion (λ item. length item ≡ 2) (map be2 numbers)
 be2s_have [] = tt
 be2s_have (n ∷ ns) = (refl, be2s_have ns)
 
@@ -194,7 +194,7 @@ AreOctets-take (suc n) (octet ∷ octets) are = (are.0, AreOctets-take n octets 
 
 numbers_written : (count : ℕ) (octets : List ℕ) → length octets ≤ count → AreOctets octets
     → length octets % 2 ≡ 0
-    → (numbers16_wire (numbers octets) ≡ octets) × Each (λ n. n < 65536) (numbers octets)
+    → (numbers16_wire (numbers octets) ≡ octets) × AllByRecursion (λ n. n < 65536) (numbers octets)
 numbers_written count [] few are whole = (refl, tt)
 numbers_written zero (octet ∷ octets) few are whole = absurd (omega arith)
 numbers_written (suc count) (octet ∷ octets) few are whole =
@@ -212,7 +212,7 @@ numbers_written (suc count) (octet ∷ octets) few are whole =
           (be2-octets_number (take 2 (octet ∷ octets)) here two)
           ∙ ap (λ back. take 2 (octet ∷ octets) ++ back) others.0
           ∙ take-append-drop 2 (octet ∷ octets),
-      subst (Each (λ n. n < 65536)) (sym first)
+      subst (AllByRecursion (λ n. n < 65536)) (sym first)
           (octets_number-small (take 2 (octet ∷ octets)) here two, others.1),
     )
 
@@ -223,7 +223,7 @@ numbers_wire-numbers octets are whole =
     (numbers_written (length octets) octets (omega arith) are whole).0
 
 pub numbers-small : (octets : List ℕ) → AreOctets octets → length octets % 2 ≡ 0
-    → Each (λ n. n < 65536) (numbers octets)
+    → AllByRecursion (λ n. n < 65536) (numbers octets)
 numbers-small octets are whole = (numbers_written (length octets) octets (omega arith) are whole).1
 
 -- ---- protocols
@@ -293,7 +293,7 @@ protocols_wire-whole (item ∷ items) =
 protocols_written : (count : ℕ) (octets : List ℕ) → length octets ≤ count → AreOctets octets
     → are_whole octets ≡ true
     → (protocols_wire (protocols octets) ≡ octets)
-    × Each (λ protocol. length protocol < 256) (protocols octets)
+    × AllByRecursion (λ protocol. length protocol < 256) (protocols octets)
 protocols_written count [] few are whole = (refl, tt)
 protocols_written zero (len ∷ octets) few are whole = absurd (omega arith)
 protocols_written (suc count) (len ∷ octets) few are whole =
@@ -307,7 +307,7 @@ protocols_written (suc count) (len ∷ octets) few are whole =
           ∙ ap (λ n. n ∷ take len octets ++ protocols_wire (protocols (drop len octets))) long
           ∙ ap (λ back. len ∷ take len octets ++ back) others.0
           ∙ ap (λ all. len ∷ all) (take-append-drop len octets),
-      subst (Each (λ protocol. length protocol < 256)) (sym first) (omega (arith, are.0), others.1),
+      subst (AllByRecursion (λ protocol. length protocol < 256)) (sym first) (omega (arith, are.0), others.1),
     )
 
 -- the octets of the protocols that octets are, are these octets
@@ -317,7 +317,7 @@ protocols_wire-protocols octets are whole =
     (protocols_written (length octets) octets (omega arith) are whole).0
 
 pub protocols-short : (octets : List ℕ) → AreOctets octets → are_whole octets ≡ true
-    → Each (λ protocol. length protocol < 256) (protocols octets)
+    → AllByRecursion (λ protocol. length protocol < 256) (protocols octets)
 protocols-short octets are whole =
     (protocols_written (length octets) octets (omega arith) are whole).1
 

@@ -1,6 +1,7 @@
 -- Laws of the definitions.
 use Rattle.std.specs.Prelude.{◌≡◌, ℕ, ◌+◌, ◌<◌, ◌≤◌, ◌↔◌, true, List, [], length, Option, None, Ok}
-use Rattle.svcb_spec.specs.Values.{Value, key_of, encode, Each, IsValue, AreValues, is_own_type, is_unknown}
+use Rattle.std.specs.List.{AllByRecursion}
+use Rattle.svcb_spec.specs.Values.{Value, key_of, encode, IsValue, AreValues, is_own_type, is_unknown}
 use Rattle.svcb_spec.specs.Records.{Record, rdata, IsRecord, read}
 use Rattle.svcb_spec.specs.Rebuilding.{accept, Rebuilt, rebuild, with_accepted, AreHeld, IsRebuilding}
 use Rattle.svcb_spec.specs.ReadingValues.{take_value, whole_taken, value_in}
@@ -24,7 +25,7 @@ PairsReadBack = (pairs : Pairs) → IsMap pairs → pairs_at (wire pairs) (lengt
 
 -- octets that are read as parameters are the octets of a map, and of no other
 abbrev pub PairsInWire : Type 0
-PairsInWire = (octets : List ℕ) (pairs : Pairs) → Each (λ octet. octet < 256) octets
+PairsInWire = (octets : List ℕ) (pairs : Pairs) → AllByRecursion (λ octet. octet < 256) octets
     → pairs_at octets (length octets) 0 None ≡ Ok pairs
     → IsMap pairs × (wire pairs ≡ octets)
 
@@ -43,7 +44,7 @@ ValuesEncodeOnce = (a b : Value) → IsValue a → IsValue b → key_of a ≡ ke
 -- the value that octets are under a key has that key and these octets
 abbrev pub ValuesInOctets : Type 0
 ValuesInOctets = (key : ℕ) (octets : List ℕ) → key < 65536 → length octets < 65536
-    → Each (λ octet. octet < 256) octets
+    → AllByRecursion (λ octet. octet < 256) octets
     → IsValue (value_in key octets) × (key_of (value_in key octets) ≡ key)
     × (encode (value_in key octets) ≡ octets)
 
@@ -63,7 +64,7 @@ OneRecord = (a b : Record) → IsRecord a → IsRecord b
 -- data that was read is a record
 abbrev pub ReadIsRecord : Type 0
 ReadIsRecord = (message : List ℕ) (start len : ℕ) (found : Record)
-    → Each (λ octet. octet < 256) message → start + len ≤ length message
+    → AllByRecursion (λ octet. octet < 256) message → start + len ≤ length message
     → read message start len ≡ Ok found → IsRecord found
 
 -- ---- rebuilding

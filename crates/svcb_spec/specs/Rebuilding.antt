@@ -2,11 +2,12 @@
 use Rattle.std.specs.Prelude.{◌≡◌, ℕ, ◌+◌, ◌<◌, ◌≤◌, List, length, nat_lt, if◌then◌else◌, is_some, [], ◌∷◌, Some, Result, Ok, Err}
 use Rattle.std.specs.Ordering.{nat_cmp}
 use Rattle.std.specs.BTreeMap.{insert_entry}
+use Rattle.std.specs.List.{AllByRecursion}
 use Rattle.svcb_spec.specs.declared.Reply.{Reply}
 use Rattle.svcb_spec.specs.declared.Reply.TheVariants.{Accepted, DuplicateKey, ShortBuf}
 use Rattle.name_spec.specs.Octets.{Fault}
 use Rattle.svcb_spec.specs.Params.{Pairs, value_at, wire}
-use Rattle.svcb_spec.specs.Values.{Value, key_of, encode, Each, AreValues}
+use Rattle.svcb_spec.specs.Values.{Value, key_of, encode, AreValues}
 use Rattle.svcb_spec.specs.Records.{Record, read, rdata}
 
 -- the reply to octets that are pushed under a key
@@ -80,7 +81,7 @@ AreHeld pairs (value ∷ values) (reply ∷ replies) =
 -- the data in the `len` octets from `start` on is `found`, and with the values pushed it is `done`
 pub record IsRebuilding (message : List ℕ) (start len : ℕ) (values : List Value) (limit : ℕ)
     (found : Record) (done : Rebuilt) : Type 0 where
-  pub octets : Each (λ octet. octet < 256) message
+  pub octets : AllByRecursion (λ octet. octet < 256) message
   pub in_message : start + len ≤ length message
   pub are_values : AreValues values
   pub read : read message start len ≡ Ok found

@@ -1,7 +1,7 @@
 -- Values of service parameters and their octets (RFC 9460, sections 7 and 8; RFC 9461, section 5;
 -- RFC 9540, section 4).
 use Rattle.std.specs.Prelude.{◌≡◌, ℕ, ◌<◌, Bool, true, false, List, [], ◌∷◌, length, nat_lt}
-use Rattle.std.specs.List.{concat, flat_map}
+use Rattle.std.specs.List.{concat, flat_map, AllByRecursion}
 use Rattle.name_spec.specs.Octets.{be2}
 
 -- A value of a type is its items: numbers, protocols, or addresses, each as its octets. A value
@@ -55,24 +55,19 @@ encode Ohttp = []
 encode (TlsSupportedGroups groups) = numbers16_wire groups
 encode (Unknown key octets) = octets
 
--- each item of a list is such an item
-abbrev pub Each : {A : Type 0} → (A → Type 0) → List A → Type 0
-Each P [] = Unit {0}
-Each P (x ∷ xs) = P x × Each P xs
-
 -- numbers have 16 bits, protocols at most 255 octets, addresses 4 or 16; there is at least one
 -- group
 abbrev pub HasItems : Value → Type 0
-HasItems (Mandatory keys) = Each (λ key. key < 65536) keys
-HasItems (Alpn protocols) = Each (λ protocol. length protocol < 256) protocols
+HasItems (Mandatory keys) = AllByRecursion (λ key. key < 65536) keys
+HasItems (Alpn protocols) = AllByRecursion (λ protocol. length protocol < 256) protocols
 HasItems NoDefaultAlpn = Unit {0}
 HasItems (Port port) = port < 65536
-HasItems (Ipv4Hint addresses) = Each (λ address. length address ≡ 4) addresses
+HasItems (Ipv4Hint addresses) = AllByRecursion (λ address. length address ≡ 4) addresses
 HasItems (Ech octets) = Unit {0}
-HasItems (Ipv6Hint addresses) = Each (λ address. length address ≡ 16) addresses
+HasItems (Ipv6Hint addresses) = AllByRecursion (λ address. length address ≡ 16) addresses
 HasItems (DohPath octets) = Unit {0}
 HasItems Ohttp = Unit {0}
-HasItems (TlsSupportedGroups groups) = (0 < length groups) × Each (λ group. group < 65536) groups
+HasItems (TlsSupportedGroups groups) = (0 < length groups) × AllByRecursion (λ group. group < 65536) groups
 HasItems (Unknown key octets) = key < 65536
 
 -- a value has at most 65,535 octets (RFC 9460, section 2.2: its length has 16 bits)
@@ -109,4 +104,4 @@ is_unknown (Unknown key octets) = true
 
 -- each of them is a value
 abbrev pub AreValues : List Value → Type 0
-AreValues = Each IsValue
+AreValues = AllByRecursion IsValue

@@ -5,9 +5,9 @@ use Rattle.std.specs.Option.{ok_or}
 use Rattle.std.specs.Net.Addr.{octets_of}
 use Rattle.std.specs.Net.Grammar.{IsColonHex}
 use Rattle.std.proofs.lemmas.List.{length-replicate}
+use Rattle.std.specs.List.{AllByRecursion}
 use Rattle.name_spec.specs.Addresses.{ipv4_of, ipv6_of}
 use Rattle.name_spec.proofs.AddressTexts.{ipv4_spelled, ipv6_spelled}
-use Rattle.svcb_spec.specs.Values.{Each}
 use Rattle.text_spec.specs.declared.errors.ScanError.TheVariants.{BadAddress}
 use Rattle.svcb_spec.specs.ListTexts.{◌>>=◌, comma_items, plain_item, read_items}
 use Rattle.svcb_spec.specs.ValueTexts.{some_text, address_item}
@@ -44,28 +44,28 @@ length-ipv6_of text octets e =
 -- ---- lists of them
 
 each_last : (n : ℕ) (addresses : List (List ℕ)) (address : List ℕ)
-    → Each (λ a. length a ≡ n) addresses → length address ≡ n
-    → Each (λ a. length a ≡ n) (addresses ++ address ∷ [])
+    → AllByRecursion (λ a. length a ≡ n) addresses → length address ≡ n
+    → AllByRecursion (λ a. length a ≡ n) (addresses ++ address ∷ [])
 each_last n [] address each is = (is, tt)
 each_last n (a ∷ addresses) address each is = (each.0, each_last n addresses address each.1 is)
 
 module _ (read : List ℕ → Option (List ℕ)) (n : ℕ)
     (reads : (text octets : List ℕ) → read text ≡ Some octets → length octets ≡ n) where
   each_read : (before : List (List ℕ)) (items : List (List ℕ)) (all : List (List ℕ))
-      → Each (λ a. length a ≡ n) before
-      → read_items (address_item read) before items ≡ Ok all → Each (λ a. length a ≡ n) all
+      → AllByRecursion (λ a. length a ≡ n) before
+      → read_items (address_item read) before items ≡ Ok all → AllByRecursion (λ a. length a ≡ n) all
   each_read before [] all each e = let same : before ≡ all = cc
-      in subst (Each (λ a. length a ≡ n)) same each
+      in subst (AllByRecursion (λ a. length a ≡ n)) same each
   each_read before (item ∷ items) all each e =
       elim (plain_item item) as
       (λ p. ((p >>= λ text. ok_or (read text) BadAddress)
       >>= λ x. read_items (address_item read) (before ++ x ∷ []) items) ≡ Ok all
-      → Each (λ a. length a ≡ n) all) [
+      → AllByRecursion (λ a. length a ≡ n) all) [
         | Err fault ↦ λ e. absurd cc
         | Ok text ↦ λ e. elim (read text) as
             (λ o. read text ≡ o
             → (ok_or o BadAddress >>= λ x. read_items (address_item read) (before ++ x ∷ []) items)
-            ≡ Ok all → Each (λ a. length a ≡ n) all) [
+            ≡ Ok all → AllByRecursion (λ a. length a ≡ n) all) [
               | None ↦ λ is e. absurd cc
               | Some x ↦ λ is e. each_read (before ++ x ∷ []) items all
                   (each_last n before x each (reads text x is)) e
@@ -73,11 +73,11 @@ module _ (read : List ℕ → Option (List ℕ)) (n : ℕ)
       ] e
 
   pub each_listed : (text : List ℕ) (all : List (List ℕ))
-      → read_list (add_last (read_address read)) [] text ≡ Ok all → Each (λ a. length a ≡ n) all
+      → read_list (add_last (read_address read)) [] text ≡ Ok all → AllByRecursion (λ a. length a ≡ n) all
   each_listed text all e =
       elim (some_text text) as
       (λ s. (s >>= λ list. add_items (add_last (read_address read)) [] (comma_items list))
-      ≡ Ok all → Each (λ a. length a ≡ n) all) [
+      ≡ Ok all → AllByRecursion (λ a. length a ≡ n) all) [
         | Err fault ↦ λ e. absurd cc
         | Ok list ↦ λ e. each_read [] (comma_items list) all tt
             (sym (add_items-last (read_address read) [] (comma_items list)) ∙ e)

@@ -3,7 +3,8 @@ use Rattle.std.proofs.Common.{◌≡◌, ℕ, zero, suc, ◌+◌, ◌<◌, ◌�
 use Rattle.std.specs.Prelude.{◌==◌, nat_lt, option_map}
 use Rattle.std.proofs.lemmas.Bool.Decides.{nat_tests}
 use Rattle.std.proofs.lemmas.List.{take_more}
-use Rattle.svcb_spec.specs.Values.{Value, Each, encode, protocols_wire}
+use Rattle.std.specs.List.{AllByRecursion}
+use Rattle.svcb_spec.specs.Values.{Value, encode, protocols_wire}
 use Rattle.svcb_spec.specs.BuildingValues.{IsProtocolLength}
 use Rattle.svcb_list.specs.Pushing.{IsPushed}
 use Rattle.svcb_list.specs.declared.errors.BuildAlpnError.{BuildAlpnError}
@@ -178,9 +179,9 @@ module _ (text : List ℕ) (left : Option (List ℕ)) (before : List (List ℕ))
 
 -- each protocol is one
 pub each_protocol : (before : List (List ℕ)) (item : List ℕ)
-    → Each (λ protocol. IsProtocolLength (length protocol)) before → 0 < length item
+    → AllByRecursion (λ protocol. IsProtocolLength (length protocol)) before → 0 < length item
     → length item ≤ 255
-    → Each (λ protocol. IsProtocolLength (length protocol)) (before ++ item ∷ [])
+    → AllByRecursion (λ protocol. IsProtocolLength (length protocol)) (before ++ item ∷ [])
 each_protocol [] item each some short = (record { not_empty = some; fits = short }, tt)
 each_protocol (first ∷ before) item each some short =
     (each.0, each_protocol before item each.1 some short)
@@ -214,7 +215,7 @@ protocols_wire-front (suc n) (first ∷ protocols) =
     )
 
 pub protocol_at : (i : ℕ) (protocols : List (List ℕ)) (d : List ℕ)
-    → Each (λ protocol. IsProtocolLength (length protocol)) protocols → i < length protocols
+    → AllByRecursion (λ protocol. IsProtocolLength (length protocol)) protocols → i < length protocols
     → IsProtocolLength (length (get_or protocols i d))
 protocol_at i [] d each within = absurd (omega arith)
 protocol_at zero (first ∷ protocols) d each within = each.0

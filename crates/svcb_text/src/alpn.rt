@@ -1,8 +1,8 @@
 //! Values of `alpn`, whose items may have escapes, scanned from text.
 
 ghost use Rattle.std.specs.Prelude.{◌≡◌, ◌<◌, ◌==◌, length, IfOk};
+ghost use Rattle.std.specs.List.{AllByRecursion};
 ghost use Rattle.svcb_spec.specs.Values as values;
-ghost use Rattle.svcb_spec.specs.Values.{Each};
 ghost use Rattle.svcb_spec.specs.BuildingValues.{IsProtocolLength};
 ghost use Rattle.text_spec.specs.Scanning.{Answers};
 ghost use Rattle.svcb_spec.specs.ValueTexts.{alpn_value, protocols_of, short_value};
@@ -33,7 +33,7 @@ fn read_protocols(alloc: Global, text: &[u8]) -> Result<Vec<Octets>, ScanError>
     requires { 0 < length text.now }
     ensures answer { Answers (λ list. list.items) result (protocols_of text.now) }
     ensures each { IfOk result
-        (λ list. Each (λ protocol. IsProtocolLength (length protocol)) list.items) }
+        (λ list. AllByRecursion (λ protocol. IsProtocolLength (length protocol)) list.items) }
 {
     let mut items = SvcParamValueScanIter::from_slice(text);
     let mut protocols = Vec::new(alloc);
@@ -50,7 +50,7 @@ fn read_protocols(alloc: Global, text: &[u8]) -> Result<Vec<Octets>, ScanError>
 ///
 /// `LongValue`: it would have more than 65,535 octets. `NoMemory`: allocation failed.
 fn build_alpn(alloc: Global, protocols: &[Octets]) -> Result<Alpn, ScanError>
-    requires { Each (λ protocol. IsProtocolLength (length protocol)) protocols.now }
+    requires { AllByRecursion (λ protocol. IsProtocolLength (length protocol)) protocols.now }
     ensures { Answers (λ value. value) result (short_value (values.Alpn protocols.now)) }
 {
     let mut builder = AlpnBuilder::empty(alloc);
