@@ -1,6 +1,6 @@
 -- The first element without a partner.
-use Rattle.std.proofs.Common.{◌≡◌, ℕ, zero, suc, ◌+◌, ◌<◌, ◌≤◌, ◌&&◌, Bool, true, false, cond, not, Some, None, List, [], ◌∷◌, length, get_or, take, map, refl, ap, ◌∙◌, arith, nat_lt}
-use Rattle.std.specs.List.{position, position_or_len, list_all, AllPass}
+use Rattle.std.proofs.Common.{◌≡◌, ℕ, zero, suc, ◌+◌, ◌<◌, ◌≤◌, Bool, true, false, cond, not, Some, None, List, [], ◌∷◌, length, get_or, take, map, refl, ap, arith, nat_lt}
+use Rattle.std.specs.List.{position, position_or_len, AllPass}
 use Rattle.std.proofs.lemmas.Bool.Decides.{nat_tests}
 use Rattle.std.proofs.lemmas.List.Quantifiers.{position-Some}
 use Rattle.std.proofs.lemmas.List.Sums.{position_or_len_is, fails_before_first}

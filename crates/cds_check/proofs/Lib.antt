@@ -1,5 +1,4 @@
 pub mod Sums
-pub mod Marking
 pub mod Sets
 pub mod Alone
 pub mod VerdictLaws

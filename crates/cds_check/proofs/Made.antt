@@ -1,5 +1,5 @@
 -- A CDS matches a key exactly where it is the key's by one of the digest types.
-use Rattle.std.proofs.Common.{◌≡◌, ◌≢◌, ◌⊎◌, inl, inr, ℕ, Bool, true, false, not, ◌&&◌, ◌||◌, Option, Some, None, List, [], ◌∷◌, get_or, refl, sym, ap, subst, ◌∙◌, ◌==◌, arith}
+use Rattle.std.proofs.Common.{◌≡◌, ◌≢◌, ◌⊎◌, inl, inr, ℕ, Bool, true, false, not, ◌&&◌, ◌||◌, Option, Some, None, List, get_or, refl, sym, ap, subst, ◌∙◌, ◌==◌, arith}
 use Rattle.std.specs.Prelude.{if◌then◌else◌}
 use Rattle.std.specs.Option.{option_map}
 use Rattle.std.specs.Cmp.Lexicographic.{bytes_decides}
@@ -12,9 +12,8 @@ use Rattle.digest_rdata.specs.declared.cdnskey.CdnskeyFields.{CdnskeyFields}
 use Rattle.digest_rdata.specs.FieldsView.{FieldsView, data_of}
 use Rattle.cds_check.specs.KeyTags.{key_tag}
 use Rattle.cds_check.specs.Matching.{is_digest, key_digest, matches}
-use Rattle.cds_check.specs.CdsSets.{cds_numbers, cds_of, cds_with, is_cds, is_same_cds}
-use Rattle.cds_check.proofs.Marking.{both}
-use Rattle.cds_check.proofs.Matches.{match_of, refused_type, same}
+use Rattle.cds_check.specs.CdsSets.{cds_numbers, cds_of, kind_of, is_cds, is_same_cds}
+use Rattle.cds_check.proofs.Matches.{both, match_of, refused_type, same}
 
 -- ---- the same CDS
 
@@ -80,23 +79,18 @@ other_number n m h = grind (arith, nat_tests)
 this_number : (n m : ℕ) → n ≡ m → (n == m) ≡ true
 this_number n m h = grind (arith, nat_tests)
 
+abbrev cds_with : FieldsView CdnskeyFields → ℕ → List ℕ → FieldsView CdsFields
+cds_with key digest_type digest = record { fields = kind_of key digest_type; last = digest }
+
 with_fields : (key : FieldsView CdnskeyFields) (digest_type : ℕ) (made : FieldsView CdsFields)
-    → made.fields ≡ record {
-      key_tag = key_tag key;
-      algorithm = key.fields.algorithm;
-      digest_type = digest_type;
-    }
+    → made.fields ≡ kind_of key digest_type
     → cds_with key digest_type made.last ≡ made
 with_fields key digest_type made is =
     sym (ap (λ (fields : CdsFields). record { fields = fields; last = made.last }) is)
 
 pub made_some : (owner : List (List ℕ)) (key : FieldsView CdnskeyFields) (digest_type : ℕ)
     (made : FieldsView CdsFields)
-    → made.fields ≡ record {
-      key_tag = key_tag key;
-      algorithm = key.fields.algorithm;
-      digest_type = digest_type;
-    }
+    → made.fields ≡ kind_of key digest_type
     → key_digest owner key digest_type ≡ Some made.last → key.fields.algorithm ≢ 1
     → Some made ≡ cds_of owner key digest_type
 unfolding cds_of
@@ -118,6 +112,16 @@ unfolding cds_of
 no_type owner key digest_type not_sha256 not_sha384 =
     none_unless (key.fields.algorithm == 1) (cds_with key digest_type) _
     (refused_type owner key digest_type not_sha256 not_sha384)
+
+-- what is made has the key's tag and algorithm, and the digest type
+pub made_kind : (owner : List (List ℕ)) (key : FieldsView CdnskeyFields) (digest_type : ℕ)
+    (made : FieldsView CdsFields) → cds_of owner key digest_type ≡ Some made
+    → kind_of key digest_type ≡ made.fields
+unfolding cds_of
+made_kind owner key digest_type made h =
+    ap (λ (one : FieldsView CdsFields). one.fields)
+    (unless_some (key.fields.algorithm == 1) (cds_with key digest_type)
+    (key_digest owner key digest_type) made h).3
 
 -- what `make_cds` makes or refuses
 pub ruleset made_is = (made_some, no_algorithm, no_type)
@@ -217,6 +221,7 @@ matches_by_type owner one key = alike _ _ (λ h. to (match_made owner one key h)
       | inr e ↦ right _ _ (made_is_cds one _
           (subst (λ (t : ℕ). cds_of owner key t ≡ Some one) e is.made))
     ]
+
     from : (is_cds one (cds_of owner key 2) || is_cds one (cds_of owner key 4)) ≡ true
         → matches owner one key ≡ true
     from h = elim (either _ _ h) [

@@ -6,8 +6,11 @@ use Rattle.digest_rdata.specs.declared.cds.CdsFields.{CdsFields}
 use Rattle.digest_rdata.specs.declared.cdnskey.CdnskeyFields.{CdnskeyFields}
 use Rattle.digest_rdata.specs.FieldsView.{FieldsView}
 use Rattle.cds_check.specs.KeyTags.{key_tag}
-use Rattle.cds_check.proofs.Marking.{both}
 use Rattle.cds_check.specs.Matching.{digest_by, is_digest, key_digest, matches}
+
+pub both : (a b : Bool) → a ≡ true → b ≡ true → (a && b) ≡ true
+both true b h k = k
+both false b h k = h
 
 other_type : (digest_type : ℕ) (octets : List ℕ) → digest_type ≢ 2 → digest_type ≢ 4
     → digest_by digest_type octets ≡ None

@@ -1,8 +1,8 @@
 -- Sets of CDS.
-use Rattle.std.proofs.Common.{◌≡◌, ℕ, zero, suc, ◌+◌, ◌<◌, Bool, true, false, cond, ◌&&◌, ◌||◌, Option, Some, None, List, [], ◌∷◌, ◌++◌, length, get_or, take, map, refl, sym, ap, ◌∙◌, arith}
+use Rattle.std.proofs.Common.{◌≡◌, ℕ, ◌+◌, ◌<◌, Bool, true, false, cond, ◌&&◌, ◌||◌, Option, Some, None, List, [], ◌∷◌, ◌++◌, length, get_or, take, map, refl, sym, ap, ◌∙◌}
 use Rattle.std.specs.List.{list_any}
 use Rattle.std.specs.BTreeMap.{is_at}
-use Rattle.std.specs.BTreeSet.{BTreeSet, Updates}
+use Rattle.std.specs.BTreeSet.{BTreeSet, Updates, contains}
 use Rattle.std.proofs.lemmas.List.{take_more, map-append}
 use Rattle.std.proofs.lemmas.List.Folds.{list_any_more, list_any_at}
 use Rattle.record_spec.specs.Comparing.{same_fields_ties}
@@ -11,8 +11,8 @@ use Rattle.digest_rdata.specs.declared.cdnskey.CdnskeyFields.{CdnskeyFields}
 use Rattle.digest_rdata.specs.FieldsView.{FieldsView, data_of}
 use Rattle.cds_check.specs.Matching.{matches}
 use Rattle.cds_check.specs.Verdicts.{has_cds}
-use Rattle.cds_check.specs.CdsSets.{cds_numbers, cds_cmp, is_same_cds, cds_of, is_cds, has, has_made, IsSetOf}
-use Rattle.cds_check.proofs.Made.{same_cds, same_itself, matches_by_type}
+use Rattle.cds_check.specs.CdsSets.{cds_numbers, cds_cmp, kind_cmp, is_same_cds, cds_of, kind_of, is_cds, has, has_made, Covers, IsSetOf}
+use Rattle.cds_check.proofs.Made.{same_cds, same_itself, made_kind, matches_by_type}
 
 -- a key of a set is found by its data
 ties : (one other : FieldsView CdsFields) → is_at (cds_cmp one) other ≡ is_same_cds one other
@@ -99,34 +99,65 @@ module _ (old asked : BTreeSet (FieldsView CdsFields)) where
       (ties made one ∙ same_turned made one) (alike_asked made one true known)
       ∙ ap (λ (o : Option (FieldsView CdsFields)). has old one || (has asked one && is_cds one o)) is
 
-  -- that isn't
-  pub skip_found : (given : Option (FieldsView CdsFields)) (made one : FieldsView CdsFields)
-      → Some made ≡ given → has asked made ≡ false
-      → has old one ≡ (has old one || (has asked one && is_cds one given))
-  skip_found given made one is unknown =
-      skip_bool (has old one) (has asked one) (is_same_cds one made)
-      (alike_asked made one false unknown)
-      ∙ ap (λ (o : Option (FieldsView CdsFields)). has old one || (has asked one && is_cds one o)) is
-
   none_bool : (a b : Bool) → a ≡ (a || (b && false))
   none_bool true b = refl
   none_bool false true = refl
   none_bool false false = refl
 
-  -- that isn't there
-  pub none_found : (given : Option (FieldsView CdsFields)) (one : FieldsView CdsFields)
-      → None ≡ given → has old one ≡ (has old one || (has asked one && is_cds one given))
-  none_found given one is =
-      none_bool (has old one) (has asked one)
-      ∙ ap (λ (o : Option (FieldsView CdsFields)). has old one || (has asked one && is_cds one o)) is
+  -- that isn't, or isn't there
+  pub skip_found : (given : Option (FieldsView CdsFields)) (one : FieldsView CdsFields)
+      → has_made asked given ≡ false
+      → has old one ≡ (has old one || (has asked one && is_cds one given))
+  skip_found None one unknown = none_bool (has old one) (has asked one)
+  skip_found (Some made) one unknown =
+      skip_bool (has old one) (has asked one) (is_same_cds one made)
+      (alike_asked made one false unknown)
 
-  pub made_asked : (given : Option (FieldsView CdsFields)) (made : FieldsView CdsFields) (b : Bool)
-      → Some made ≡ given → has asked made ≡ b → b ≡ has_made asked given
-  made_asked given made b is known = sym known ∙ ap (has_made asked) is
+-- ---- fixed fields
 
-  pub none_asked : (given : Option (FieldsView CdsFields)) → None ≡ given
-      → false ≡ has_made asked given
-  none_asked given is = ap (has_made asked) is
+always : (b : Bool) → cond b true true ≡ true
+always true = refl
+always false = refl
+
+-- those of a CDS more
+pub covers_more : (old_kinds new_kinds : BTreeSet CdsFields)
+    (old new : BTreeSet (FieldsView CdsFields)) (kind : CdsFields) (one : FieldsView CdsFields)
+    → kind ≡ one.fields → Covers old_kinds old → Updates kind_cmp old_kinds new_kinds kind true
+    → Updates cds_cmp old new one true → Covers new_kinds new
+covers_more old_kinds new_kinds old new kind one is before kinds_more more other h =
+    by (is_at (cds_cmp one) other) refl
+  where
+    by : (b : Bool) → is_at (cds_cmp one) other ≡ b
+        → contains kind_cmp new_kinds other.fields ≡ true
+    by true e =
+        let same = same_cds one other (sym (ties one other) ∙ e) in
+        ap (contains kind_cmp new_kinds)
+        (sym (is ∙ ap (λ (c : FieldsView CdsFields). c.fields) same))
+        ∙ kinds_more.1
+    by false e =
+        kinds_more.0 other.fields
+        ∙ ap (cond (is_at (kind_cmp kind) other.fields) true)
+        (before other (sym (more.2 other e) ∙ h))
+        ∙ always (is_at (kind_cmp kind) other.fields)
+
+-- a CDS whose fixed fields aren't there isn't there
+pub no_kind : (owner : List (List ℕ)) (key : FieldsView CdnskeyFields) (digest_type : ℕ)
+    (kinds : BTreeSet CdsFields) (asked : BTreeSet (FieldsView CdsFields)) → Covers kinds asked
+    → contains kind_cmp kinds (kind_of key digest_type) ≡ false
+    → has_made asked (cds_of owner key digest_type) ≡ false
+no_kind owner key digest_type kinds asked covers unknown = by (cds_of owner key digest_type) refl
+  where
+    known : (made : FieldsView CdsFields) (b : Bool) → has asked made ≡ b
+        → contains kind_cmp kinds made.fields ≡ false → b ≡ false
+    known made true e none = sym (covers made e) ∙ none
+    known made false e none = refl
+
+    by : (o : Option (FieldsView CdsFields)) → cds_of owner key digest_type ≡ o
+        → has_made asked o ≡ false
+    by None e = refl
+    by (Some made) e =
+        known made (has asked made) refl
+        (ap (contains kind_cmp kinds) (sym (made_kind owner key digest_type made e)) ∙ unknown)
 
 -- ---- by both digest types
 

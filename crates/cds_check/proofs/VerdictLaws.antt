@@ -1,5 +1,5 @@
 -- What a verdict says.
-use Rattle.std.proofs.Common.{◌≡◌, ℕ, ◌<◌, ◌≤◌, ◌↔◌, Bool, true, not, ◌&&◌, Option, Some, None, List, [], ◌∷◌, length, get_or, map, take, refl, ◌∙◌, sym, ap, arith}
+use Rattle.std.proofs.Common.{◌≡◌, ℕ, ◌<◌, ◌≤◌, ◌↔◌, Bool, not, ◌&&◌, Option, Some, None, List, [], ◌∷◌, length, get_or, map, take, refl, ◌∙◌, sym, ap, arith}
 use Rattle.std.specs.List.{position, list_any}
 use Rattle.std.specs.BTreeSet.{BTreeSet}
 use Rattle.digest_rdata.specs.declared.cds.CdsFields.{CdsFields}

@@ -5,7 +5,7 @@ ghost use Rattle.std.specs.List.{position};
 ghost use Rattle.cds_check.specs.Verdicts.{cds_verdict, verdict_of, has_key, Agrees, IsFirstAlone, IsFirstKeyAlone};
 ghost use Rattle.cds_check.specs.CdsSets.{has};
 
-use crate::cds_sets::{add_cds_of, set_of};
+use crate::cds_sets::{AskedCds, add_cds_of};
 use crate::verdict::CdsVerdict;
 use digest_rdata::Cds;
 use key_rdata::Cdnskey;
@@ -50,12 +50,16 @@ fn find_verdict(
     ensures memory { OnErr result ((0 < length cds.now) × (0 < length keys.now)) }
 {
     if keys.is_empty() {
-        return Ok(if cds.is_empty() { CdsVerdict::Agree } else { CdsVerdict::CdsAlone(0) });
+        return Ok(if cds.is_empty() {
+            CdsVerdict::Agree
+        } else {
+            CdsVerdict::CdsAlone(0)
+        });
     }
     if cds.is_empty() {
         return Ok(CdsVerdict::CdnskeyAlone(0));
     }
-    let asked = set_of(alloc, cds)?;
+    let asked = AskedCds::new(alloc, cds)?;
     let mut found = BTreeSet::new(alloc);
     let mut marks = Vec::new(alloc);
     for key in keys {
@@ -70,8 +74,9 @@ fn find_verdict(
 /// key's digest by SHA-256 or SHA-384 (RFC 4034, appendix B and section 5.1.4). A CDS with another digest type matches
 /// no key, and one that asks for the deletion of DS records (RFC 8078) is taken as any other.
 ///
-/// The first CDS that matches no key decides; then the first key that no CDS matches. Each key is digested once by each
-/// of the two, and its digests are looked up among those of the CDS.
+/// The first CDS that matches no key decides; then the first key that no CDS matches. A key is digested at most
+/// once by each of the two, where a CDS of that digest type has its tag and algorithm, and the digest is looked up among
+/// those of the CDS.
 ///
 /// Fails only with `NoMemory`: allocation failed. Memory is taken only where there are both CDS and keys.
 pub fn check_cds(

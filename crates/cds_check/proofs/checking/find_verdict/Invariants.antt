@@ -10,6 +10,6 @@ use Rattle.cds_check.proofs.checking.find_verdict.Given as goal
 abbrev pub invariant-loop-key : goal.invariant-loop-key
 invariant-loop-key l = record {
   found : (one : FieldsView CdsFields) → has l.found one
-      ≡ (has l.asked one && list_any (matches l.owner one) (take l.key-index l.keys));
+      ≡ (has l.asked.all one && list_any (matches l.owner one) (take l.key-index l.keys));
   marks : l.marks.items ≡ map (has_cds l.owner l.cds) (take l.key-index l.keys);
 }
