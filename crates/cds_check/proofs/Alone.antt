@@ -1,6 +1,6 @@
 -- The first element without a partner.
-use Rattle.std.proofs.Common.{◌≡◌, ℕ, zero, suc, ◌+◌, ◌<◌, ◌≤◌, ◌&&◌, Bool, true, false, cond, not, Some, None, List, [], ◌∷◌, length, get_or, take, map, refl, ap, ◌∙◌, arith, nat_lt}
-use Rattle.std.specs.List.{position, position_or_len, list_all, AllPass}
+use Rattle.std.proofs.Common.{◌≡◌, ℕ, zero, suc, ◌+◌, ◌<◌, ◌≤◌, Bool, true, false, cond, not, Some, None, List, [], ◌∷◌, length, get_or, take, map, refl, ap, arith, nat_lt}
+use Rattle.std.specs.List.{position, position_or_len, AllPass}
 use Rattle.std.proofs.lemmas.Bool.Decides.{nat_tests}
 use Rattle.std.proofs.lemmas.List.Quantifiers.{position-Some}
 use Rattle.std.proofs.lemmas.List.Sums.{position_or_len_is, fails_before_first}
@@ -13,60 +13,30 @@ all_taken zero (x ∷ xs) h = absurd (omega arith)
 all_taken (suc n) [] h = refl
 all_taken (suc n) (x ∷ xs) h = ap (λ rest. x ∷ rest) (all_taken n xs (omega arith))
 
-first_so : (a b : Bool) → (a && b) ≡ true → a ≡ true
-first_so true b h = refl
-first_so false b h = h
-
-second_so : (a b : Bool) → (a && b) ≡ true → b ≡ true
-second_so true b h = h
-second_so false b h = cc
-
-stop : (b : Bool) (n : ℕ) → b ≡ false → cond (not (not b)) (1 + n) 0 ≡ 0
-stop false n h = refl
-stop true n h = cc
-
-go_on : (b : Bool) (n : ℕ) → b ≡ true → cond (not (not b)) (1 + n) 0 ≡ 1 + n
-go_on true n h = refl
-go_on false n h = cc
-
-place_is : {A : Type 0} (has : A → Bool) (xs : List A) (i : ℕ) (d : A) → i < length xs
-    → list_all has (take i xs) ≡ true → has (get_or xs i d) ≡ false
-    → position_or_len (λ x. not (has x)) xs ≡ i
-place_is has [] i d within before alone = absurd (omega arith)
-place_is has (x ∷ xs) zero d within before alone = stop (has x) _ alone
-place_is has (x ∷ xs) (suc i) d within before alone =
-    let rest : position_or_len (λ x. not (has x)) xs ≡ i =
-    place_is has xs i d (omega arith) (second_so (has x) _ before) alone in
-    let step = go_on (has x) (position_or_len (λ x. not (has x)) xs) (first_so (has x) _ before) in
-    step ∙ omega (arith, rest)
-
-len_is : {A : Type 0} (has : A → Bool) (xs : List A) → list_all has xs ≡ true
-    → position_or_len (λ x. not (has x)) xs ≡ length xs
-len_is has [] all = refl
-len_is has (x ∷ xs) all =
-    let rest : position_or_len (λ x. not (has x)) xs ≡ length xs =
-    len_is has xs (second_so (has x) _ all) in
-    let step = go_on (has x) (position_or_len (λ x. not (has x)) xs) (first_so (has x) _ all) in
-    step ∙ omega (arith, rest)
-
-at_place : (place i len : ℕ) → place ≡ i → i < len
+pub at_place : (place i len : ℕ) → place ≡ i → i < len
     → cond (nat_lt place len) (Some place) None ≡ Some i
 at_place place i len is within = grind (arith, nat_tests)
 
 at_len : (place len : ℕ) → place ≡ len → cond (nat_lt place len) (Some place) None ≡ None
 at_len place len is = grind (arith, nat_tests)
 
--- all before it have a partner
-pub first_alone : {A : Type 0} (has : A → Bool) (xs : List A) (i : ℕ) (d : A) → i < length xs
-    → list_all has (take i xs) ≡ true → has (get_or xs i d) ≡ false
-    → position (λ x. not (has x)) xs ≡ Some i
-first_alone has xs i d within before alone =
-    at_place _ i _ (place_is has xs i d within before alone) within
+alike_places : {A : Type 0} (f g : A → Bool) (xs : List A)
+    → ((i : ℕ) (d : A) → i < length xs → f (get_or xs i d) ≡ g (get_or xs i d))
+    → position_or_len (λ x. not (f x)) xs ≡ position_or_len (λ x. not (g x)) xs
+alike_places f g [] h = refl
+alike_places f g (x ∷ xs) h =
+    let first : f x ≡ g x = h zero x (omega arith) in
+    let rest : position_or_len (λ y. not (f y)) xs ≡ position_or_len (λ y. not (g y)) xs =
+    alike_places f g xs (λ i d within. h (suc i) d (omega (arith, within))) in
+    λ i. cond (not (not (first i))) (1 + rest i) 0
 
--- all have a partner
-pub none_alone : {A : Type 0} (has : A → Bool) (xs : List A) → list_all has xs ≡ true
-    → position (λ x. not (has x)) xs ≡ None
-none_alone has xs all = at_len _ _ (len_is has xs all)
+-- by a test that answers alike for each of them
+pub position_alike : {A : Type 0} (f g : A → Bool) (xs : List A)
+    → ((i : ℕ) (d : A) → i < length xs → f (get_or xs i d) ≡ g (get_or xs i d))
+    → position (λ x. not (f x)) xs ≡ position (λ x. not (g x)) xs
+position_alike f g xs h =
+    let place = alike_places f g xs h in
+    λ i. cond (nat_lt (place i) (length xs)) (Some (place i)) None
 
 place_map : {A : Type 0} (has : A → Bool) (xs : List A)
     → position_or_len not (map has xs) ≡ position_or_len (λ x. not (has x)) xs

@@ -1,7 +1,7 @@
 pub mod Sums
-pub mod Marking
-pub mod PlaceLemmas
+pub mod Sets
 pub mod Alone
 pub mod VerdictLaws
 pub mod Matches
+pub mod Made
 pub mod Vectors

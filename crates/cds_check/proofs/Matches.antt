@@ -6,8 +6,11 @@ use Rattle.digest_rdata.specs.declared.cds.CdsFields.{CdsFields}
 use Rattle.digest_rdata.specs.declared.cdnskey.CdnskeyFields.{CdnskeyFields}
 use Rattle.digest_rdata.specs.FieldsView.{FieldsView}
 use Rattle.cds_check.specs.KeyTags.{key_tag}
-use Rattle.cds_check.proofs.Marking.{both}
 use Rattle.cds_check.specs.Matching.{digest_by, is_digest, key_digest, matches}
+
+pub both : (a b : Bool) → a ≡ true → b ≡ true → (a && b) ≡ true
+both true b h k = k
+both false b h k = h
 
 other_type : (digest_type : ℕ) (octets : List ℕ) → digest_type ≢ 2 → digest_type ≢ 4
     → digest_by digest_type octets ≡ None
@@ -38,7 +41,7 @@ refused_types owner key digest_type h = (
 octet_same : (n : ℕ) → (n == n) ≡ true
 octet_same n = grind (arith, nat_tests)
 
-same : (octets : List ℕ) → pointwise ◌==◌ octets octets ≡ true
+pub same : (octets : List ℕ) → pointwise ◌==◌ octets octets ≡ true
 same [] = refl
 same (octet ∷ octets) = both _ _ (octet_same octet) (same octets)
 
@@ -66,25 +69,6 @@ match_of owner cds key tag algorithm apart digest =
     let digested : is_digest cds.last (key_digest owner key cds.fields.digest_type) ≡ true =
     digest_same cds.last _ digest in
     grind arith
-
--- a CDS with the tag of a key
-pub with_tag : (owner : List (List ℕ)) (cds : FieldsView CdsFields) (key : FieldsView CdnskeyFields)
-    → cds.fields.key_tag ≡ key_tag key
-    → matches owner cds key
-    ≡ (cds.fields.algorithm == key.fields.algorithm
-    && (not (cds.fields.algorithm == 1)
-    && is_digest cds.last (key_digest owner key cds.fields.digest_type)))
-unfolding matches
-with_tag owner cds key tag =
-    let tagged : (cds.fields.key_tag == key_tag key) ≡ true = rw tag (octet_same (key_tag key)) in
-    grind arith
-
--- and with another tag
-pub other_tag : (owner : List (List ℕ)) (cds : FieldsView CdsFields)
-    (key : FieldsView CdnskeyFields)
-    → (cds.fields.key_tag == key_tag key) ≡ false → matches owner cds key ≡ false
-unfolding matches
-other_tag owner cds key h = grind arith
 
 -- which refusals come, and that what is made matches
 pub ruleset made_rules = (refused_type, refused_types, match_of)

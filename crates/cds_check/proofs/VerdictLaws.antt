@@ -1,13 +1,17 @@
 -- What a verdict says.
-use Rattle.std.proofs.Common.{◌≡◌, ℕ, ◌≤◌, ◌↔◌, Bool, true, not, Option, Some, None, List, length, map, take, refl, ◌∙◌, sym, ap}
-use Rattle.std.specs.List.{position, list_all}
+use Rattle.std.proofs.Common.{◌≡◌, ℕ, ◌<◌, ◌≤◌, ◌↔◌, Bool, not, ◌&&◌, Option, Some, None, List, [], ◌∷◌, length, get_or, map, take, refl, ◌∙◌, sym, ap, arith}
+use Rattle.std.specs.List.{position, list_any}
+use Rattle.std.specs.BTreeSet.{BTreeSet}
 use Rattle.digest_rdata.specs.declared.cds.CdsFields.{CdsFields}
 use Rattle.digest_rdata.specs.declared.cdnskey.CdnskeyFields.{CdnskeyFields}
 use Rattle.digest_rdata.specs.FieldsView.{FieldsView}
 use Rattle.cds_check.specs.declared.verdict.CdsVerdict.{CdsVerdict}
 use Rattle.cds_check.specs.declared.verdict.CdsVerdict.TheVariants.{Agree, CdsAlone, CdnskeyAlone}
 use Rattle.cds_check.specs.Verdicts.{has_key, has_cds, verdict_of, cds_verdict, Agrees, IsFirstAlone, IsFirstKeyAlone}
-use Rattle.cds_check.proofs.Alone.{all_taken, none_alone, position_map, alone_at, all_partners, place_of_alone, no_place}
+use Rattle.cds_check.specs.Matching.{matches}
+use Rattle.cds_check.specs.CdsSets.{has, IsSetOf}
+use Rattle.cds_check.proofs.Alone.{all_taken, at_place, position_alike, position_map, alone_at, all_partners, place_of_alone, no_place}
+use Rattle.cds_check.proofs.Sets.{each_in_set}
 
 agree_parts : (p q : Option ℕ) → verdict_of p q ≡ Agree → (p ≡ None) × (q ≡ None)
 agree_parts (Some i) q h = cc
@@ -84,17 +88,55 @@ module _ (owner : List (List ℕ)) (cds : List (FieldsView CdsFields))
   says_key verdict is j =
       ((λ h. (verdict_key j).0 (sym is ∙ h)), (λ h. is ∙ (verdict_key j).1 h))
 
-  -- where each CDS has its key, the marks decide
-  pub verdict_by_marks : (i : ℕ) (marks : List Bool) (answer : Option ℕ) → length cds ≤ i
-      → list_all (has_key owner keys) (take i cds) ≡ true
-      → marks ≡ map (has_cds owner (take i cds)) keys → answer ≡ position not marks
-      → verdict_of None answer ≡ cds_verdict owner cds keys
+  -- behind the last key: which CDS are found, and which keys are marked
+  pub verdict_found : (asked found : BTreeSet (FieldsView CdsFields)) (marks : List Bool) (n : ℕ)
+      (cds_alone key_alone : Option ℕ) → length keys ≤ n → IsSetOf asked cds
+      → ((one : FieldsView CdsFields)
+      → has found one ≡ (has asked one && list_any (matches owner one) (take n keys)))
+      → marks ≡ map (has_cds owner cds) (take n keys)
+      → cds_alone ≡ position (λ one. not (has found one)) cds → key_alone ≡ position not marks
+      → verdict_of cds_alone key_alone ≡ cds_verdict owner cds keys
   unfolding cds_verdict
-  verdict_by_marks i marks answer long found marks_are answer_is =
-      let all = all_taken i cds long in
-      let no_cds = none_alone (has_key owner keys) cds
-      (ap (list_all (has_key owner keys)) (sym all) ∙ found) in
-      let key = answer_is ∙ ap (position not) marks_are
-      ∙ ap (λ some. position not (map (has_cds owner some) keys)) all
+  verdict_found asked found marks n cds_alone key_alone long is found_is marks_are first second =
+      let all = all_taken n keys long in
+      let each = λ (i : ℕ) (d : FieldsView CdsFields) (within : i < length cds).
+      found_is (get_or cds i d)
+      ∙ ap (λ b. b && list_any (matches owner (get_or cds i d)) (take n keys))
+      (each_in_set asked cds i d is within)
+      ∙ ap (list_any (matches owner (get_or cds i d))) all in
+      let one = first ∙ position_alike (has found) (has_key owner keys) cds each in
+      let key = second ∙ ap (position not) marks_are
+      ∙ ap (λ some. position not (map (has_cds owner cds) some)) all
       ∙ position_map (has_cds owner cds) keys in
-      λ at. verdict_of (sym no_cds at) (key at)
+      λ at. verdict_of (one at) (key at)
+
+-- ---- where a list is empty
+
+pub neither : (owner : List (List ℕ)) (cds : List (FieldsView CdsFields))
+    (keys : List (FieldsView CdnskeyFields)) → length cds ≡ 0 → length keys ≡ 0
+    → Agree ≡ cds_verdict owner cds keys
+unfolding cds_verdict
+neither owner [] [] h k = refl
+neither owner [] (key ∷ keys) h k = absurd (omega (arith, k))
+neither owner (one ∷ cds) keys h k = absurd (omega (arith, h))
+
+pub cds_only : (owner : List (List ℕ)) (cds : List (FieldsView CdsFields))
+    (keys : List (FieldsView CdnskeyFields)) → 0 < length cds → length keys ≡ 0
+    → CdsAlone 0 ≡ cds_verdict owner cds keys
+unfolding cds_verdict
+cds_only owner [] keys h k = absurd (omega (arith, h))
+cds_only owner (one ∷ cds) [] h k =
+    sym (ap (λ place. verdict_of place None) (at_place 0 0 (length (one ∷ cds)) refl h))
+cds_only owner (one ∷ cds) (key ∷ keys) h k = absurd (omega (arith, k))
+
+pub keys_only : (owner : List (List ℕ)) (cds : List (FieldsView CdsFields))
+    (keys : List (FieldsView CdnskeyFields)) → length cds ≡ 0 → 0 < length keys
+    → CdnskeyAlone 0 ≡ cds_verdict owner cds keys
+unfolding cds_verdict
+keys_only owner [] [] h k = absurd (omega (arith, k))
+keys_only owner [] (key ∷ keys) h k =
+    sym (ap (verdict_of None) (at_place 0 0 (length (key ∷ keys)) refl k))
+keys_only owner (one ∷ cds) keys h k = absurd (omega (arith, h))
+
+-- where a list has no elements, nothing is looked up
+pub ruleset one_sided = (neither, cds_only, keys_only)

@@ -1,6 +1,5 @@
 pub mod KeyTags
 pub mod Matching
 pub mod Digests
+pub mod CdsSets
 pub mod Verdicts
-pub mod Marks
-pub mod Places

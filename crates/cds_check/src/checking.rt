@@ -1,42 +1,23 @@
 //! The check of CDS against CDNSKEY records.
 
-ghost use Rattle.std.specs.Prelude.{◌≡◌, ◌↔◌, ℕ, not, length, IfOk};
-ghost use Rattle.std.specs.List.{list_any, position};
-ghost use Rattle.cds_check.specs.Matching.{matches};
-ghost use Rattle.cds_check.specs.Verdicts.{cds_verdict, has_key, Agrees, IsFirstAlone, IsFirstKeyAlone};
-ghost use Rattle.cds_check.specs.Marks.{marked};
-ghost use Rattle.cds_check.specs.Places.{places_of};
+ghost use Rattle.std.specs.Prelude.{◌≡◌, ◌↔◌, ◌<◌, ℕ, Option, not, length, IfOk, OnErr};
+ghost use Rattle.std.specs.List.{position};
+ghost use Rattle.cds_check.specs.Verdicts.{cds_verdict, verdict_of, has_key, Agrees, IsFirstAlone, IsFirstKeyAlone};
+ghost use Rattle.cds_check.specs.CdsSets.{has};
 
-use crate::digests::is_match;
-use crate::places::{places_by_tag, places_with};
+use crate::cds_sets::{AskedCds, add_cds_of};
 use crate::verdict::CdsVerdict;
 use digest_rdata::Cds;
 use key_rdata::Cdnskey;
 use std::alloc::Global;
+use std::collections::BTreeSet;
 use wire_base::{Name, NoMemory};
 
-/// Marks the keys that a CDS matches, and tells whether there is one. A digest is computed only for a key with the tag
-/// and the algorithm of the CDS.
-fn mark_matches(
-    owner: &Name,
-    cds: &Cds,
-    keys: &[Cdnskey],
-    places: &[usize],
-    marks: &mut [bool],
-) -> bool
-    requires places { places.now ≡ places_of cds.now.fields.key_tag keys.now }
-    requires len { length marks.old ≡ length keys.now }
-    ensures found { result ≡ list_any (matches owner.now cds.now) keys.now }
-    ensures marks { marks.new ≡ marked (matches owner.now cds.now) keys.now marks.old }
+/// The place of the first CDS that isn't in a set.
+fn first_outside(cds: &[Cds], found: &BTreeSet<Cds>) -> Option<usize>
+    ensures { result ≡ position (λ one. not (has found.now one)) cds.now }
 {
-    let mut found = false;
-    for place in places {
-        if is_match(owner, cds, &keys[*place]) {
-            marks[*place] = true;
-            found = true;
-        }
-    }
-    found
+    cds.iter().position(|one| !found.contains(one))
 }
 
 /// The place of the first mark that is not set.
@@ -46,16 +27,58 @@ fn first_unmarked(marks: &[bool]) -> Option<usize>
     marks.iter().position(|is_marked| !*is_marked)
 }
 
+/// The verdict by the first CDS and the first CDNSKEY without a partner.
+fn verdict_of(cds_alone: Option<usize>, key_alone: Option<usize>) -> CdsVerdict
+    ensures { result ≡ verdict_of cds_alone key_alone }
+{
+    match (cds_alone, key_alone) {
+        (Some(i), _) => CdsVerdict::CdsAlone(i),
+        (None, Some(j)) => CdsVerdict::CdnskeyAlone(j),
+        (None, None) => CdsVerdict::Agree,
+    }
+}
+
+/// The verdict. Fails only with `NoMemory`, where there are both CDS and keys.
+#[tactic(auto, using(crate::proofs::VerdictLaws::one_sided))]
+fn find_verdict(
+    alloc: Global,
+    owner: &Name,
+    cds: &[Cds],
+    keys: &[Cdnskey],
+) -> Result<CdsVerdict, NoMemory>
+    ensures verdict { IfOk result (λ verdict. verdict ≡ cds_verdict owner.now cds.now keys.now) }
+    ensures memory { OnErr result ((0 < length cds.now) × (0 < length keys.now)) }
+{
+    if keys.is_empty() {
+        return Ok(if cds.is_empty() {
+            CdsVerdict::Agree
+        } else {
+            CdsVerdict::CdsAlone(0)
+        });
+    }
+    if cds.is_empty() {
+        return Ok(CdsVerdict::CdnskeyAlone(0));
+    }
+    let asked = AskedCds::new(alloc, cds)?;
+    let mut found = BTreeSet::new(alloc);
+    let mut marks = Vec::new(alloc);
+    for key in keys {
+        marks.push(add_cds_of(alloc, owner, key, &asked, &mut found)?)?;
+    }
+    Ok(verdict_of(first_outside(cds, &found), first_unmarked(&marks)))
+}
+
 /// Whether the CDS and the CDNSKEY records of one owner ask the parent zone for the same keys (RFC 7344, section 4).
 ///
 /// A CDS matches a key where they have one algorithm, which is not RSA/MD5 (1), and the CDS has the key's tag and the
 /// key's digest by SHA-256 or SHA-384 (RFC 4034, appendix B and section 5.1.4). A CDS with another digest type matches
 /// no key, and one that asks for the deletion of DS records (RFC 8078) is taken as any other.
 ///
-/// The first CDS that matches no key decides; then the first key that no CDS matches. Each key's tag is computed once,
-/// and a digest only for a CDS and a key with one tag and algorithm.
+/// The first CDS that matches no key decides; then the first key that no CDS matches. A key is digested at most
+/// once by each of the two, where a CDS of that digest type has its tag and algorithm, and the digest is looked up among
+/// those of the CDS.
 ///
-/// Fails only with `NoMemory`: allocation failed. Memory is taken for the places of the keys alone.
+/// Fails only with `NoMemory`: allocation failed. Memory is taken only where there are both CDS and keys.
 pub fn check_cds(
     alloc: Global,
     owner: &Name,
@@ -70,17 +93,7 @@ pub fn check_cds(
     ensures cdnskey_alone { IfOk result (λ verdict. (j : ℕ)
         → (verdict ≡ CdsVerdict.CdnskeyAlone j)
         ↔ IsFirstKeyAlone owner.now cds.now keys.now j) }
+    ensures memory { OnErr result ((0 < length cds.now) × (0 < length keys.now)) }
 {
-    let by_tag = places_by_tag(alloc, keys)?;
-    let mut marks = vec![in alloc; false; keys.len()]?;
-    for (i, one) in cds.iter().enumerate() {
-        let places = places_with(&by_tag, one.key_tag());
-        if !mark_matches(owner, one, keys, places, &mut marks) {
-            return Ok(CdsVerdict::CdsAlone(i));
-        }
-    }
-    match first_unmarked(&marks) {
-        Some(j) => Ok(CdsVerdict::CdnskeyAlone(j)),
-        None => Ok(CdsVerdict::Agree),
-    }
+    find_verdict(alloc, owner, cds, keys)
 }

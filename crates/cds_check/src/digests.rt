@@ -3,13 +3,11 @@
 ghost use Rattle.std.specs.Prelude.{◌≡◌, ℕ, List, ◌++◌};
 ghost use Rattle.std.specs.Option.{option_map};
 ghost use Rattle.name_spec.specs.OwnedNames.{lowered_wire};
-ghost use Rattle.cds_check.specs.KeyTags.{key_tag};
-ghost use Rattle.cds_check.specs.Matching.{digested, is_digest, key_digest, matches};
+ghost use Rattle.cds_check.specs.Matching.{digested, key_digest};
 ghost use Rattle.cds_check.specs.Digests.{octets_of};
 
-use digest_rdata::Cds;
 use key_rdata::Cdnskey;
-use key_registry::{DigestAlgorithm, SecurityAlgorithm};
+use key_registry::DigestAlgorithm;
 use sha2::{Digest, Sha256, Sha384};
 use wire_base::Name;
 
@@ -70,26 +68,4 @@ impl KeyDigest {
             KeyDigest::Sha384(octets) => octets,
         }
     }
-}
-
-/// Whether a CDS has the digest of a key.
-fn has_digest(owner: &Name, cds: &Cds, key: &Cdnskey) -> bool
-    ensures { result
-        ≡ is_digest cds.now.last (key_digest owner.now key.now cds.now.fields.digest_type) }
-{
-    match KeyDigest::new(owner, key, cds.digest_type()) {
-        Some(digest) => cds.digest().as_slice() == digest.as_slice(),
-        None => false,
-    }
-}
-
-/// Whether a CDS is that of a key whose tag it has.
-#[tactic(auto, using(crate::proofs::Matches::with_tag))]
-pub(crate) fn is_match(owner: &Name, cds: &Cds, key: &Cdnskey) -> bool
-    requires { cds.now.fields.key_tag ≡ key_tag key.now }
-    ensures { result ≡ matches owner.now cds.now key.now }
-{
-    cds.algorithm() == key.algorithm()
-        && cds.algorithm() != SecurityAlgorithm::RSAMD5
-        && has_digest(owner, cds, key)
 }

@@ -21,10 +21,10 @@
 //! that the crate `sha2` states.
 #![tactic(auto)]
 
+mod cds_sets;
 mod checking;
 mod digests;
 mod making;
-mod places;
 mod tags;
 mod verdict;
 

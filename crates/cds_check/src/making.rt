@@ -4,6 +4,7 @@ ghost use Rattle.std.specs.Prelude.{◌≡◌, ◌≢◌, ◌↔◌, Some, IfOk,
 ghost use Rattle.cds_check.specs.declared.making.MakeCdsError.TheVariants as errors;
 ghost use Rattle.cds_check.specs.KeyTags.{key_tag};
 ghost use Rattle.cds_check.specs.Matching.{key_digest, matches};
+ghost use Rattle.cds_check.specs.CdsSets.{cds_of};
 
 use crate::digests::KeyDigest;
 use crate::tags::key_tag;
@@ -71,4 +72,23 @@ pub fn make_cds(
     };
     let octets = Octets::from_slice(alloc, digest.as_slice())?;
     Ok(Cds::new(key_tag(key), key.algorithm(), digest_type, octets).unwrap())
+}
+
+/// The CDS of a key under an owner, with a digest of that type; `None` where the algorithm or the digest type is not
+/// supported. Fails only with `NoMemory`.
+#[tactic(auto, using(crate::proofs::Made::made_is))]
+pub(crate) fn cds_of(
+    alloc: Global,
+    owner: &Name,
+    key: &Cdnskey,
+    digest_type: DigestAlgorithm,
+) -> Result<Option<Cds>, NoMemory>
+    ensures { IfOk result (λ made. made ≡ cds_of owner.now key.now digest_type) }
+{
+    match make_cds(alloc, owner, key, digest_type) {
+        Ok(made) => Ok(Some(made)),
+        Err(MakeCdsError::UnsupportedAlgorithm) => Ok(None),
+        Err(MakeCdsError::UnsupportedDigest) => Ok(None),
+        Err(MakeCdsError::NoMemory) => Err(NoMemory),
+    }
 }

@@ -1,5 +1,6 @@
 -- The next token of an entry.
 use Rattle.std.proofs.Common.{◌≡◌, ℕ, true, false, ◌&&◌, is_some, zero, suc, ◌+◌, ◌<◌, ◌≤◌, Result, Err, Option, Some, None, List, [], ◌∷◌, ◌++◌, length, drop, refl, sym, ap, ◌∙◌, append_assoc, arith}
+use Rattle.std.proofs.lemmas.Option.{slice_get_past}
 use Rattle.std.specs.Prelude.{slice_get, ◌==◌}
 use Rattle.std.proofs.lemmas.List.{append-nil, length-drop}
 use Rattle.text_spec.specs.declared.errors.ScanError.{ScanError}
@@ -45,17 +46,12 @@ pub token_here : {V : Type 0} (meaning : List Symbol → Result V ScanError)
 token_here meaning tokens place token here =
     ap (λ found. elim found [ None ↦ Err EndOfEntry | Some t ↦ meaning t ]) here
 
-none_left : {X : Type 0} (xs : List X) (n : ℕ) → length xs ≤ n → slice_get xs n ≡ None
-none_left [] n short = refl
-none_left (x ∷ xs) zero short = absurd (omega arith)
-none_left (x ∷ xs) (suc n) short = none_left xs n (omega arith)
-
 pub no_token : {V : Type 0} (meaning : List Symbol → Result V ScanError)
     (tokens : List (List Symbol)) (place : ℕ)
     → length tokens ≤ place → next_token meaning tokens place ≡ Err EndOfEntry
 no_token meaning tokens place short =
     ap (λ found. elim found [ None ↦ Err EndOfEntry | Some t ↦ meaning t ])
-    (none_left tokens place short)
+    (slice_get_past tokens place short)
 
 -- ---- tokens that are begun
 
@@ -108,7 +104,7 @@ marked_as tokens place token others left =
 pub unmarked_end : (tokens : List (List Symbol)) (place : ℕ) → length tokens ≤ place
     → is_marked tokens place ≡ false
 unmarked_end tokens place short =
-    ap (λ found. elim found [ None ↦ false | Some t ↦ is_marker t ]) (none_left tokens place short)
+    ap (λ found. elim found [ None ↦ false | Some t ↦ is_marker t ]) (slice_get_past tokens place short)
 
 not_first : (symbol : Symbol) (more : List Symbol)
     → (symbol.escaped && (symbol.octet == 35)) ≡ false → is_marker (symbol ∷ more) ≡ false

@@ -1,5 +1,5 @@
 -- The texts of data, printed or laid out, are scanned as that data.
-use Rattle.std.proofs.Common.{◌≡◌, ℕ, zero, suc, ◌<◌, get_or, ◌+◌, ◌/◌, ◌%◌, Bool, true, false, List, [], ◌∷◌, ◌++◌, length, Some, refl, sym, ap, ap₂, ◌∙◌, subst, length-append, arith}
+use Rattle.std.proofs.Common.{◌≡◌, ℕ, zero, suc, ◌<◌, get_or, ◌+◌, ◌/◌, ◌%◌, Bool, true, false, List, [], ◌∷◌, ◌++◌, length, Some, refl, sym, ap, ap₂, ◌∙◌, subst, length-append, arith, append_assoc}
 use Rattle.std.proofs.lemmas.List.{length-map}
 use Rattle.std.proofs.lemmas.Bool.{and_parts}
 use Rattle.std.specs.List.{list_all}
@@ -24,7 +24,7 @@ use Rattle.record_spec.specs.Texts.{rest_encoded, scan_last, scan_data, within_l
 use Rattle.record_spec.specs.Documents.{numbers_items, last_field_text, data_document}
 use Rattle.record_spec.specs.DocumentLaws.{document-data}
 use Rattle.record_laws.specs.RecordLaws.{AreSmall, AreScannedAs, FieldsTextReadBack, FieldsLayoutReadBack}
-use Rattle.record_laws.proofs.Scans.{assoc, rest_taken, within}
+use Rattle.record_laws.proofs.Scans.{rest_taken, within}
 use Rattle.record_laws.proofs.Texts.{number_token, number_tokens, each_small, numbers_scanned, numbers_on, numbers_front, text_tokens, octets-text_tokens, bare_text, bracketed_text, last_front, text_of}
 
 -- ---- the last field
@@ -113,7 +113,7 @@ data_scanned row found text small is read front =
     let onward : List ℕ → ℕ → Scanned Data =
     λ octets end. within_length row (record { numbers = found.numbers; last = octets }) tokens
     end in
-    let moved : front ++ (numbers ++ last) ≡ tokens = sym (assoc front numbers last) in
+    let moved : front ++ (numbers ++ last) ≡ tokens = sym (append_assoc front numbers last) in
     let place : length front + length found.numbers ≡ length taken =
     omega (arith, length-append front numbers, length-map found.numbers number_token) in
     let end : length tokens ≡ length front + length (numbers ++ last) =
@@ -152,7 +152,7 @@ data_front row found small is =
     (inner_plain row.encoding true found.last is.octets) in
     let items = numbers_items row.fields found.numbers in
     subst (λ (all : List _). AreTokenTexts (BlockBegin ∷ all) (data_tokens found text))
-    (sym (assoc items (Token text ∷ []) (BlockEnd ∷ [])))
+    (sym (append_assoc items (Token text ∷ []) (BlockEnd ∷ [])))
     (numbers_front row.fields found.numbers (Token text ∷ BlockEnd ∷ [])
     (text_tokens text) is.numbers (each_small row.fields found.numbers small is.numbers)
     (last_front text plain))

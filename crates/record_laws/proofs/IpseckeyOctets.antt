@@ -1,5 +1,5 @@
 -- Octets of the data of IPSECKEY records, composed and read.
-use Rattle.std.proofs.Common.{◌≡◌, ℕ, ◌+◌, ◌-◌, ◌≤◌, Bool, true, false, cond, List, ◌++◌, length, take, drop, get_or, Result, Ok, Err, refl, sym, ap, ap₂, ◌∙◌, length-append, arith}
+use Rattle.std.proofs.Common.{◌≡◌, ℕ, ◌+◌, ◌-◌, ◌≤◌, Bool, true, false, cond, List, ◌++◌, length, take, drop, get_or, Result, Ok, Err, refl, sym, ap, ap₂, ◌∙◌, length-append, arith, append_assoc}
 use Rattle.std.proofs.lemmas.List.{get_or-append-add}
 use Rattle.std.proofs.Math.Seq.{take-append_seam, drop-append_seam, drop-append-add}
 use Rattle.std.proofs.lemmas.Bool.Decides.{nat_tests}
@@ -13,7 +13,6 @@ use Rattle.wire_records.specs.Reading.{next_octets}
 use Rattle.record_spec.specs.Ipseckeys.{Gateway, NoGateway, Ipv4Gateway, Ipv6Gateway, NameGateway, gateway_type, gateway_wire, Ipseckey, lacks_key, ipseckey_wire, IsGateway}
 use Rattle.record_spec.specs.IpseckeyWire.{as_gateway, name_gateway, gateway_read, key_read}
 use Rattle.record_laws.specs.RecordLaws.{IpseckeyReadBack}
-use Rattle.record_laws.proofs.Scans.{assoc}
 use Rattle.record_laws.proofs.Octets.{drop-drop}
 
 not_below : (a b : ℕ) → b ≤ a → nat_lt a b ≡ false
@@ -113,7 +112,7 @@ ipseckey_again found front behind is has =
     let fits = is.fits in
     let next = pos + 3 + length gw in
     let left : drop (pos + 3) message ≡ gw ++ (found.key ++ behind) =
-    drop-append-add front (ipseckey_wire found ++ behind) 3 ∙ assoc gw found.key behind in
+    drop-append-add front (ipseckey_wire found ++ behind) 3 ∙ append_assoc gw found.key behind in
     let left_key : drop next message ≡ found.key ++ behind =
     range_behind message gw (found.key ++ behind) (pos + 3) left in
     let gateway = gateway_again message (found.key ++ behind) end

@@ -1,5 +1,5 @@
 -- The texts of the data of IPSECKEY records, printed or laid out, are scanned as that data.
-use Rattle.std.proofs.Common.{◌≡◌, ℕ, ◌+◌, ◌<◌, Bool, true, false, cond, List, [], ◌∷◌, ◌++◌, length, Option, Some, Ok, refl, sym, ap, ap₂, ◌∙◌, subst, length-append, arith}
+use Rattle.std.proofs.Common.{◌≡◌, ℕ, ◌+◌, ◌<◌, Bool, true, false, cond, List, [], ◌∷◌, ◌++◌, length, Option, Some, Ok, refl, sym, ap, ap₂, ◌∙◌, subst, length-append, arith, append_assoc}
 use Rattle.std.specs.Prelude.{codes, nat_lt}
 use Rattle.std.specs.Fmt.{decimal}
 use Rattle.std.specs.Option.{ok_or}
@@ -24,7 +24,7 @@ use Rattle.record_spec.specs.Ipseckeys.{Gateway, NoGateway, Ipv4Gateway, Ipv6Gat
 use Rattle.record_spec.specs.IpseckeyTexts.{no_gateway_of, scan_gateway, complete_ipseckey, scan_ipseckey, gateway_text, ipseckey_printed, type_comment, algorithm_comment, ipseckey_document}
 use Rattle.record_spec.specs.DocumentLaws.{document-ipseckey}
 use Rattle.record_laws.specs.RecordLaws.{AreScannedAs, IpseckeyTextReadBack, IpseckeyLayoutReadBack}
-use Rattle.record_laws.proofs.Scans.{assoc, moved_on, place_on, one_taken, rest_taken, within}
+use Rattle.record_laws.proofs.Scans.{moved_on, place_on, one_taken, rest_taken, within}
 use Rattle.record_laws.proofs.Texts.{number_token, number_scanned, numbers_on, number_front, token_front, text_tokens, octets-text_tokens, bracketed_text, last_front, text_of}
 
 -- ---- the gateway
@@ -219,7 +219,7 @@ ipseckey_text_again found is has =
     (bracketed_text (base64_text found.key) (ArePlain-base64 found.key is.key))) in
     text_of scan_ipseckey (ipseckey_printed found) found (tokens_of_data found token)
     (subst (λ (t : List ℕ). HasTokens (numbers_printed numbers ++ t) (tokens_of_data found token))
-    (sym (assoc text (codes " ") last))
+    (sym (append_assoc text (codes " ") last))
     (numbers_on numbers (text ++ 32 ∷ last) (token ∷ rest)
     (omega arith, (omega arith, (omega arith, tt))) behind))
     (data_scanned found token gateway.1 is has)

@@ -1,6 +1,6 @@
 -- What scanning answers behind tokens that are known. Offered to the crates above: `one_taken` and
 -- `rest_taken`.
-use Rattle.std.proofs.Common.{◌≡◌, ℕ, ◌+◌, ◌≤◌, Bool, false, cond, List, [], ◌∷◌, ◌++◌, length, Option, Some, None, Result, Ok, Err, refl, sym, ap, ◌∙◌, arith, length-append}
+use Rattle.std.proofs.Common.{◌≡◌, ℕ, ◌+◌, ◌≤◌, Bool, false, cond, List, [], ◌∷◌, ◌++◌, length, Option, Some, None, Result, Ok, Err, refl, sym, ap, ◌∙◌, arith, length-append, append_assoc}
 use Rattle.std.proofs.Math.Seq.{drop-append_seam}
 use Rattle.std.proofs.lemmas.Bool.Decides.{nat_tests}
 use Rattle.std.specs.Prelude.{slice_get, nat_lt}
@@ -9,10 +9,6 @@ use Rattle.text_spec.specs.declared.errors.ScanError.{ScanError}
 use Rattle.text_spec.specs.declared.errors.ScanError.TheVariants.{EndOfEntry}
 use Rattle.text_spec.specs.declared.lexeme.Symbol.{Symbol}
 use Rattle.text_spec.specs.Scanning.{octets_of, done, refused, at_token, one, rest_by, is_marked}
-
-pub assoc : {A : Type 0} (a b c : List A) → (a ++ b) ++ c ≡ a ++ (b ++ c)
-assoc [] b c = refl
-assoc {A} (x ∷ a) b c = ap (λ (t : List A). x ∷ t) (assoc a b c)
 
 -- the token behind a front
 token_at : (front behind : List (List Symbol)) (token : List Symbol)
@@ -23,7 +19,7 @@ token_at (first ∷ front) behind token = token_at front behind token
 -- a token that is taken is the last of the front
 pub moved_on : (front behind : List (List Symbol)) (token : List Symbol)
     → front ++ token ∷ behind ≡ (front ++ token ∷ []) ++ behind
-moved_on front behind token = sym (assoc front (token ∷ []) behind)
+moved_on front behind token = sym (append_assoc front (token ∷ []) behind)
 
 pub place_on : (front : List (List Symbol)) (token : List Symbol)
     → length front + 1 ≡ length (front ++ token ∷ [])

@@ -1,6 +1,6 @@
 -- The tokens of numbers and of a last field, which the texts of data are made of. Offered to the
 -- crates above, with `text_of`, which makes the law of a text of its tokens.
-use Rattle.std.proofs.Common.{◌≡◌, ℕ, ◌+◌, ◌^◌, ◌<◌, ◌≤◌, List, [], ◌∷◌, ◌++◌, length, map, Option, Some, None, Ok, refl, sym, ap, ap₂, ◌∙◌, subst, append-nil, length-append, zero-add, arith}
+use Rattle.std.proofs.Common.{◌≡◌, ℕ, ◌+◌, ◌^◌, ◌<◌, ◌≤◌, List, [], ◌∷◌, ◌++◌, length, map, Option, Some, None, Ok, refl, sym, ap, ap₂, ◌∙◌, subst, append-nil, length-append, zero-add, arith, append_assoc}
 use Rattle.std.specs.Prelude.{codes}
 use Rattle.std.specs.List.{flat_map}
 use Rattle.std.specs.Fmt.{decimal}
@@ -21,7 +21,7 @@ use Rattle.record_spec.specs.Rows.{Field, AreNumbers}
 use Rattle.record_spec.specs.Texts.{numbers_then, numbers_printed}
 use Rattle.record_spec.specs.Documents.{number_with_comment, numbers_items}
 use Rattle.record_laws.specs.RecordLaws.{AreSmall, AreScannedAs, IsScannedAs}
-use Rattle.record_laws.proofs.Scans.{assoc, one_taken}
+use Rattle.record_laws.proofs.Scans.{one_taken}
 
 -- ---- the token of a number
 
@@ -90,7 +90,7 @@ numbers_scanned {V} (field ∷ fields) (n ∷ numbers) small are next front behi
     let onward : ℕ → ℕ → Scanned V =
     λ m after. numbers_then fields (λ ns. next (m ∷ ns)) tokens after in
     let front' = front ++ token ∷ [] in
-    let moved : tokens ≡ front' ++ rest = sym (assoc front (token ∷ []) rest) in
+    let moved : tokens ≡ front' ++ rest = sym (append_assoc front (token ∷ []) rest) in
     let long = length-append front (token ∷ []) in
     let before : length front + 1 ≡ length front' = omega arith in
     let after : length front' + length numbers ≡ length front + length (n ∷ numbers) = omega arith
@@ -112,8 +112,8 @@ numbers_on (n ∷ numbers) text tokens small entry =
     let others = number_tokens numbers ++ tokens in
     let lower = numbers_on numbers text tokens small.1 entry in
     let moved : decimal n ++ 32 ∷ rest ≡ numbers_printed (n ∷ numbers) ++ text =
-    sym (ap (λ (t : List ℕ). t ++ text) (assoc (decimal n) (codes " ") (numbers_printed numbers))
-    ∙ assoc (decimal n) (32 ∷ numbers_printed numbers) text) in
+    sym (ap (λ (t : List ℕ). t ++ text) (append_assoc (decimal n) (codes " ") (numbers_printed numbers))
+    ∙ append_assoc (decimal n) (32 ∷ numbers_printed numbers) text) in
     subst (λ (t : List ℕ). EntryText 0 t (number_token n ∷ others)) moved
     (token_on 0 (32 ∷ rest) others (decimal n) (number_token n) (number_text n small.0)
     (blank_on 0 rest others 32 refl lower))
@@ -192,7 +192,7 @@ numbers_front (field ∷ fields) [] items tokens fit small are = absurd fit
 numbers_front (field ∷ fields) (n ∷ numbers) items tokens fit small are =
     let rest = numbers_items fields numbers ++ items in
     subst (λ (all : List Item). AreTokenTexts all (number_tokens (n ∷ numbers) ++ tokens))
-    (sym (assoc (number_with_comment n (field.comment n)) (numbers_items fields numbers) items))
+    (sym (append_assoc (number_with_comment n (field.comment n)) (numbers_items fields numbers) items))
     (commented_front n (field.comment n) rest (number_tokens numbers ++ tokens) small.0
     (numbers_front fields numbers items tokens fit.1 small.1 are))
 

@@ -29,6 +29,11 @@ abbrev pub IsUnsupported : ZonemdFields → Type 0
 IsUnsupported fields =
     (fields.scheme ≢ 1) ⊎ ((fields.algorithm ≢ 1) × (fields.algorithm ≢ 2))
 
+-- the scheme is SIMPLE, and the algorithm SHA-384 or SHA-512
+pub record IsSupported (fields : ZonemdFields) : Type 0 where
+  pub scheme : fields.scheme ≡ 1
+  pub algorithm : (fields.algorithm ≡ 1) ⊎ (fields.algorithm ≡ 2)
+
 -- the scheme is SIMPLE, and the zone has the published digest
 pub record HasDigest (apex : List (List ℕ)) (records : List RecordView)
     (zonemd : FieldsView ZonemdFields) : Type 0 where

@@ -1,8 +1,8 @@
 //! The check of a zone against its ZONEMD record.
 
-ghost use Rattle.std.specs.Prelude.{◌≡◌, ◌↔◌, true, IfOk};
+ghost use Rattle.std.specs.Prelude.{◌≡◌, ◌↔◌, true, IfOk, OnErr};
 ghost use Rattle.zonemd_check.specs.Ordering.{records_ascend};
-ghost use Rattle.zonemd_check.specs.Verdicts.{zonemd_verdict, IsUnsupported, HasDigest, HasOther};
+ghost use Rattle.zonemd_check.specs.Verdicts.{zonemd_verdict, IsUnsupported, IsSupported, HasDigest, HasOther};
 
 use crate::digesting::{ZonemdError, zonemd_digest};
 use crate::verdict::ZonemdVerdict;
@@ -21,7 +21,7 @@ use wire_base::{Name, NoMemory};
 ///
 /// [`records_ascend`]: crate::records_ascend
 ///
-/// Fails only with `NoMemory`: allocation for the digest failed.
+/// Fails only with `NoMemory`: allocation for the digest of a supported scheme and algorithm failed.
 #[tactic(auto, using(crate::proofs::Digests::refused_algorithm), unfolding(crate::specs::Verdicts::zonemd_verdict))]
 pub fn check_zonemd(
     alloc: Global,
@@ -38,6 +38,7 @@ pub fn check_zonemd(
         (verdict ≡ ZonemdVerdict.Match) ↔ HasDigest apex.now records.now zonemd.now) }
     ensures is_mismatch { IfOk result (λ verdict.
         (verdict ≡ ZonemdVerdict.Mismatch) ↔ HasOther apex.now records.now zonemd.now) }
+    ensures memory { OnErr result (IsSupported zonemd.now.fields) }
 {
     if zonemd.scheme() != ZonemdScheme::SIMPLE {
         return Ok(ZonemdVerdict::Unsupported);
