@@ -5,7 +5,7 @@ use Rattle.wire_base.specs.Faults.{IsFaultOf, error_of}
 use Rattle.wire_base.specs.NameView.{NameView}
 use Rattle.wire_base.specs.declared.errors.ParseError.{ParseError}
 use Rattle.wire_base.specs.declared.errors.ParseError.TheVariants as parse
-use Rattle.dns_message.specs.Aliases.{alias_in, alias_of, canonical_name, goes_on, labels_reached, last_target}
+use Rattle.dns_message.specs.Aliases.{LeadOn, alias_in, alias_of, canonical_name, goes_on, labels_reached, last_target}
 use Rattle.dns_message.specs.Headers.{header_of}
 use Rattle.dns_message.specs.Messages.{answers_start, section_behind}
 use Rattle.dns_message.specs.declared.errors.AliasError.{AliasError}
@@ -65,4 +65,24 @@ start-fault message owner parse.ShortInput start = start-fault_is message owner 
 start-fault message owner parse.Form start = start-fault_is message owner Form start
 start-fault message owner parse.NoMemory start = elim start [ ]
 
-pub ruleset look_rules = (looks-none, looks-found, looks-last, looks-fault, start-fault)
+-- aliases lead on, so that no look is the last
+no_look_is_last : (looks : ℕ) (message : List ℕ) (owner : List (List ℕ))
+    (reached : Option NameView) (targets : ℕ → NameView)
+    → alias_of message (labels_reached owner reached) ≡ Ok (Some (targets 0))
+    → ((n : ℕ) → alias_of message (targets n).labels ≡ Ok (Some (targets (n + 1))))
+    → last_target looks message owner reached ≡ Err errors.Loop
+no_look_is_last zero message owner reached targets first others =
+    looks-none zero message owner reached refl
+no_look_is_last (suc looks) message owner reached targets first others =
+    looks-found (suc looks) looks message owner reached (targets 0) (omega arith) first
+    ∙ no_look_is_last looks message owner (Some (targets 0)) (λ n. targets (n + 1)) (others 0)
+    (λ n. others (n + 1))
+
+pub loop-refused : (message : List ℕ) (owner : List (List ℕ)) (targets : ℕ → NameView)
+    → LeadOn message owner targets → canonical_name message owner ≡ Err errors.Loop
+loop-refused message owner targets goes =
+    no_look_is_last ((header_of message).ancount + 1) message owner None targets goes.first
+    goes.others
+
+pub ruleset look_rules =
+    (looks-none, looks-found, looks-last, looks-fault, start-fault, loop-refused)

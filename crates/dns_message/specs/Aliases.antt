@@ -1,5 +1,5 @@
 -- The aliases among the answer records of a message: CNAME records (RFC 1035, section 3.3.1).
-use Rattle.std.specs.Prelude.{ℕ, zero, suc, ◌+◌, ◌==◌, ◌&&◌, Bool, List, [], ◌∷◌, Option, Some, None, Result, Ok, Err, if◌then◌else◌}
+use Rattle.std.specs.Prelude.{◌≡◌, ℕ, zero, suc, ◌+◌, ◌==◌, ◌&&◌, Bool, List, [], ◌∷◌, Option, Some, None, Result, Ok, Err, if◌then◌else◌}
 use Rattle.name_spec.specs.Octets.{Fault, Form, ◌>>=◌}
 use Rattle.name_spec.specs.Names.{NameRead}
 use Rattle.wire_base.specs.Faults.{error_of}
@@ -78,3 +78,9 @@ last_target (suc looks) message owner reached =
 -- loop are at most as many as there are answer records, behind which one look more finds none.
 abbrev pub canonical_name : List ℕ → List (List ℕ) → Result (Option NameView) AliasError
 canonical_name message owner = last_target ((header_of message).ancount + 1) message owner None
+
+-- each target is what the first alias of the one before it leads to, without an end: the aliases
+-- lead in a loop
+pub record LeadOn (message : List ℕ) (owner : List (List ℕ)) (targets : ℕ → NameView) : Type 0 where
+  pub first : alias_of message owner ≡ Ok (Some (targets 0))
+  pub others : (n : ℕ) → alias_of message (targets n).labels ≡ Ok (Some (targets (n + 1)))

@@ -3,8 +3,8 @@
 //! ```
 //! let message = Message::from_octets(&octets)?;
 //! let mut found = message.find(&owner, Rtype::HTTPS)?;
-//! while let Some(Ok(record)) = found.next() {
-//!     let https = SvcbRef::<HttpsVariant>::parse(&mut record.parser())?;
+//! while let Some(record) = found.next() {
+//!     let https = SvcbRef::<HttpsVariant>::parse(&mut record?.parser())?;
 //!     println!(rt; "{}", https.priority())?;
 //! }
 //! ```

@@ -1,8 +1,10 @@
 //! A message.
 
-ghost use Rattle.std.specs.Prelude.{◌≡◌, ◌≤◌, ◌<◌, length, Ok, None, IfOk, OnErr};
+ghost use Rattle.std.specs.Prelude.{◌≡◌, ◌≤◌, ◌<◌, ℕ, length, Ok, Err, None, IfOk, OnErr};
 ghost use Rattle.wire_base.specs.Faults.{Gives};
-ghost use Rattle.dns_message.specs.Aliases.{alias_of, labels_reached, canonical_name};
+ghost use Rattle.wire_base.specs.NameView.{NameView};
+ghost use Rattle.dns_message.specs.Aliases.{LeadOn, alias_of, labels_reached, canonical_name};
+ghost use Rattle.dns_message.specs.declared.errors.AliasError.TheVariants as errors;
 ghost use Rattle.dns_message.specs.Headers.{header_of};
 ghost use Rattle.dns_message.specs.Messages.{questions_start, section_behind, answers_start};
 ghost use Rattle.dns_message.specs.Messages.{authorities_start, additionals_start, trailing_octets};
@@ -136,6 +138,8 @@ impl<'a> Message<'a> {
         ensures plain { alias_of self.now owner.now ≡ Ok None → result ≡ Ok None }
         ensures last { IfOk result (λ target.
             alias_of self.now (labels_reached owner.now target) ≡ Ok None) }
+        ensures endless { (targets : ℕ → NameView) → LeadOn self.now owner.now targets
+            → result ≡ Err errors.Loop }
     {
         let start = self.questions().into_end()?;
         let count = self.header().ancount;
