@@ -1,6 +1,6 @@
 //! The entries of a section of a message.
 
-ghost use Rattle.std.specs.Prelude.{◌≡◌, ℕ};
+ghost use Rattle.std.specs.Prelude.{◌≡◌, ℕ, OnErr};
 ghost use Rattle.std.specs.Iterator.{YieldsFirstBy, item_count};
 ghost use Rattle.wire_base.specs.Faults.{Gives, value_item};
 ghost use Rattle.dns_message.specs.Entries.{ReadsEntry, behind_entries, section_entries};
@@ -23,11 +23,12 @@ pub trait ParseEntry<'a>: Sized + Drop {
 
     /// Reads the entry at the parser's place, and goes behind it. Takes no memory, so never fails with `NoMemory`.
     ///
-    /// `ShortInput`, `Form`: the first fault of the entry. The parser then stands anywhere within the message.
+    /// `ShortInput`, `Form`: the first fault of the entry. The parser is then unchanged.
     fn parse(parser: &mut Parser<'a>) -> Result<Self, ParseError>
         ensures answer { Gives (λ entry. record { value = seen entry; next = parser.new.pos })
             result (reads parser.old) }
-        ensures within { parser.new ≡ record parser.old { pos = parser.new.pos } };
+        ensures within { parser.new ≡ record parser.old { pos = parser.new.pos } }
+        ensures err { OnErr result (parser.new ≡ parser.old) };
 }
 
 /// The entries of a section that are left, in order. After the first fault there are none. Contracts see how many are

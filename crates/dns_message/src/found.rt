@@ -9,14 +9,14 @@ ghost use Rattle.dns_message.specs.Searching.{is_of, found_records};
 use crate::entries::Records;
 use crate::record::ParsedRecord;
 use std::marker::Model;
-use wire_base::{Name, ParseError, ParsedName, Rtype};
+use wire_base::{LabelIter, Name, ParseError, ParsedName, Rtype};
 
-/// Whether a name is an owner, ASCII case ignored (RFC 4343, section 3).
-fn is_name(name: &ParsedName<'_>, owner: &Name) -> bool
+/// Whether a name has these labels, ASCII case ignored (RFC 4343, section 3).
+fn is_name(name: &ParsedName<'_>, owner: &LabelIter<'_>) -> bool
     ensures { result ≡ is_same_name name.now.labels owner.now }
 {
     let mut labels = name.labels();
-    let mut others = owner.labels();
+    let mut others = owner.clone().unwrap();
     while let Some(label) = labels.next() {
         match others.next() {
             Some(other) if label.eq_ignore_ascii_case(other) => {}
@@ -24,6 +24,13 @@ fn is_name(name: &ParsedName<'_>, owner: &Name) -> bool
         }
     }
     others.next().is_none()
+}
+
+/// Whether a record is of an owner with these labels and of a type.
+pub(crate) fn is_of(found: &ParsedRecord<'_>, owner: &LabelIter<'_>, rtype: Rtype) -> bool
+    ensures { result ≡ is_of owner.now rtype found.now }
+{
+    found.rtype() == rtype && is_name(found.owner(), owner)
 }
 
 /// The records of one owner and type among those of a section, in order, and the first fault of a record; behind it
@@ -60,13 +67,6 @@ impl<'a, 'n> FoundRecords<'a, 'n> {
     }
 }
 
-/// Whether a record is of an owner and a type.
-fn is_of(found: &ParsedRecord<'_>, owner: &Name, rtype: Rtype) -> bool
-    ensures { result ≡ is_of owner.now rtype found.now }
-{
-    found.rtype() == rtype && is_name(found.owner(), owner)
-}
-
 impl<'a, 'n> Iterator for FoundRecords<'a, 'n> {
     type Item = Result<ParsedRecord<'a>, ParseError>;
 
@@ -77,7 +77,7 @@ impl<'a, 'n> Iterator for FoundRecords<'a, 'n> {
     fn next(&mut self) -> Option<Result<ParsedRecord<'a>, ParseError>> {
         while let Some(item) = self.records.next() {
             match &item {
-                Ok(found) if !is_of(found, self.owner, self.rtype) => {}
+                Ok(found) if !is_of(found, &self.owner.labels(), self.rtype) => {}
                 _ => return Some(item),
             }
         }

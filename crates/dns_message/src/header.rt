@@ -28,7 +28,8 @@ pub struct Header {
     pub ad: bool,
     /// Whether the client asks the server to check nothing (RFC 4035, section 3.2.2).
     pub cd: bool,
-    /// The outcome, from 0 to 15; 0 is no error.
+    /// The outcome, from 0 to 15; 0 is no error. With EDNS these are its lower four bits: the upper eight are the first
+    /// octet of the TTL of the OPT record among the additional records (RFC 6891, section 6.1.3).
     pub rcode: u8,
     /// The count of questions.
     pub qdcount: u16,

@@ -3,8 +3,8 @@
 //! ```
 //! let message = Message::from_octets(&octets)?;
 //! let mut found = message.find(&owner, Rtype::HTTPS)?;
-//! while let Some(Ok(record)) = found.next() {
-//!     let https = SvcbRef::<HttpsVariant>::parse(&mut record.parser())?;
+//! while let Some(record) = found.next() {
+//!     let https = SvcbRef::<HttpsVariant>::parse(&mut record?.parser())?;
 //!     println!(rt; "{}", https.priority())?;
 //! }
 //! ```
@@ -13,7 +13,9 @@
 //! are followed into it. Only the data that `ParsedRecord::data` gives is a copy.
 #![tactic(auto)]
 
+mod aliases;
 mod entries;
+mod errors;
 mod found;
 mod header;
 pub mod laws;
@@ -22,6 +24,7 @@ mod question;
 mod record;
 
 pub use entries::{Entries, ParseEntry, Questions, Records};
+pub use errors::AliasError;
 pub use found::FoundRecords;
 pub use header::Header;
 pub use message::Message;

@@ -1,17 +1,22 @@
 //! A message.
 
-ghost use Rattle.std.specs.Prelude.{◌≡◌, ◌≤◌, ◌<◌, length, IfOk, OnErr};
+ghost use Rattle.std.specs.Prelude.{◌≡◌, ◌≤◌, ◌<◌, ℕ, length, Ok, Err, None, IfOk, OnErr};
 ghost use Rattle.wire_base.specs.Faults.{Gives};
+ghost use Rattle.wire_base.specs.NameView.{NameView};
+ghost use Rattle.dns_message.specs.Aliases.{LeadOn, alias_of, labels_reached, canonical_name};
+ghost use Rattle.dns_message.specs.declared.errors.AliasError.TheVariants as errors;
 ghost use Rattle.dns_message.specs.Headers.{header_of};
 ghost use Rattle.dns_message.specs.Messages.{questions_start, section_behind, answers_start};
 ghost use Rattle.dns_message.specs.Messages.{authorities_start, additionals_start, trailing_octets};
 ghost use Rattle.dns_message.specs.Searching.{search_in};
 
+use crate::aliases::next_alias;
 use crate::entries::{Entries, Questions, Records};
+use crate::errors::AliasError;
 use crate::found::FoundRecords;
 use crate::header::{HEADER_LEN, Header};
 use std::marker::Model;
-use wire_base::{Name, ParseError, Parser, Rtype, ShortInput};
+use wire_base::{Name, ParseError, ParsedName, Parser, Rtype, ShortInput};
 
 /// The octets of a message (RFC 1035, section 4.1), which has a header at least. Contracts see the octets.
 #[derive(Debug, Drop)]
@@ -104,7 +109,8 @@ impl<'a> Message<'a> {
         Ok(Entries::new(start, self.header().arcount))
     }
 
-    /// The answer records of an owner, ASCII case ignored, and of a type, in order.
+    /// The records of an owner, ASCII case ignored, and of a type in the answer section, in order. Classes are not
+    /// compared, and no alias is followed: [`Message::canonical_name`] tells where the owner's aliases lead.
     ///
     /// `ShortInput`, `Form`: the first fault of a question. That of a record is an item of what is given.
     pub fn find<'n>(
@@ -116,6 +122,36 @@ impl<'a> Message<'a> {
             (section_behind (answers_start self.now) (header_of self.now).ancount)) }
     {
         Ok(FoundRecords::new(self.answers()?, owner, rtype))
+    }
+
+    /// The name that an owner's aliases lead to in the answer section, none where the owner has no alias. An alias of
+    /// a name is its first CNAME record (type 5) of the internet (class 1), ASCII case ignored (RFC 1034, section
+    /// 3.6.2). The name that is given has no alias of its own.
+    ///
+    /// At worst the section is read as often as it has records.
+    ///
+    /// `Parse` with `ShortInput` or `Form`: the first fault of a question, or of a record that a look for an alias
+    /// comes to; `Form` also for octets behind the name of an alias. `Loop`: the aliases lead in a loop.
+    #[tactic(auto, using(crate::proofs::AliasSteps::look_rules))]
+    pub fn canonical_name(&self, owner: &Name) -> Result<Option<ParsedName<'a>>, AliasError>
+        ensures name { result ≡ canonical_name self.now owner.now }
+        ensures plain { alias_of self.now owner.now ≡ Ok None → result ≡ Ok None }
+        ensures last { IfOk result (λ target.
+            alias_of self.now (labels_reached owner.now target) ≡ Ok None) }
+        ensures endless { (targets : ℕ → NameView) → LeadOn self.now owner.now targets
+            → result ≡ Err errors.Loop }
+    {
+        let start = self.questions().into_end()?;
+        let count = self.header().ancount;
+        let mut reached: Option<ParsedName<'a>> = None;
+        for _ in 0..usize::from(count) + 1 {
+            let answers = Entries::new(start.fork(), count);
+            match next_alias(answers, owner, &reached)? {
+                Some(target) => reached = Some(target),
+                None => return Ok(reached),
+            }
+        }
+        Err(AliasError::Loop)
     }
 
     /// The octets behind the last record. A message has none, but they are no fault: who wants a whole message tests

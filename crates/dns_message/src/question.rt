@@ -59,9 +59,11 @@ impl<'a> ParseEntry<'a> for Question<'a> {
     ghost reads = { next_question };
 
     fn parse(parser: &mut Parser<'a>) -> Result<Question<'a>, ParseError> {
-        let qname = ParsedName::parse(parser)?;
-        let qtype = Rtype::from_int(parser.parse_u16()?);
-        let qclass = parser.parse_u16()?;
+        let mut ahead = parser.fork();
+        let qname = ParsedName::parse(&mut ahead)?;
+        let qtype = Rtype::from_int(ahead.parse_u16()?);
+        let qclass = ahead.parse_u16()?;
+        *parser = ahead;
         Ok(Question {
             qname,
             qtype,

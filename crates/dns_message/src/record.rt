@@ -1,7 +1,7 @@
 //! A record of a message.
 
 ghost use Rattle.std.specs.Prelude.{◌≡◌, ◌+◌};
-ghost use Rattle.wire_base.specs.RecordReading.{DataAnswers};
+ghost use Rattle.dns_message.specs.RecordContents.{GivesContents};
 
 use crate::entries::ParseEntry;
 use std::alloc::Global;
@@ -54,7 +54,7 @@ impl<'a> ParsedRecord<'a> {
         self.class
     }
 
-    /// For how many seconds the record may be kept.
+    /// For how many seconds the record may be kept. That of an OPT record holds fields of EDNS (RFC 6891, section 6.1.3).
     pub fn ttl(&self) -> u32
         ensures { result ≡ self.now.ttl }
     {
@@ -85,14 +85,24 @@ impl<'a> ParsedRecord<'a> {
     }
 
     /// The data, as a type of data reads it: of one record type, or of any. None exactly where that type doesn't take
-    /// the type of the record. Octets that are left behind what was read are dropped; types of this library leave none.
+    /// the type of the record.
     ///
-    /// `ShortInput`, `Form`: the first fault of the data. `NoMemory`: it has none, and an allocation failed.
+    /// Of types such as CNAME, NS, SOA, PTR and MX, whose data has names (RFC 3597, section 4; RFC 4034, section 6.2),
+    /// `AllRecordData` has the octets as they stand, and a pointer among them means nothing outside of the message. A
+    /// type of the caller's reads such names, or `ParsedName::parse` over [`ParsedRecord::parser`].
+    ///
+    /// `ShortInput`, `Form`: the first fault of the data; `Form` also where octets are left behind it. `NoMemory`: what
+    /// was read has no fault, and an allocation for it failed.
     pub fn data<D: ParseRecordData>(&self, alloc: Global) -> Result<Option<D>, ParseError>
-        ensures { DataAnswers D.seen result (D.takes self.now.rtype)
+        ensures { GivesContents D.seen result self.now.rdata.end (D.takes self.now.rtype)
             (D.reads self.now.rtype self.now.rdata) }
     {
-        D::parse_rdata(alloc, self.rtype, &mut self.parser())
+        let mut parser = self.parser();
+        let found = D::parse_rdata(alloc, self.rtype, &mut parser)?;
+        if found.is_some() && parser.remaining() > 0 {
+            return Err(ParseError::Form);
+        }
+        Ok(found)
     }
 }
 
@@ -106,13 +116,15 @@ impl<'a> ParseEntry<'a> for ParsedRecord<'a> {
     ghost reads = { next_record };
 
     fn parse(parser: &mut Parser<'a>) -> Result<ParsedRecord<'a>, ParseError> {
-        let owner = ParsedName::parse(parser)?;
-        let mut fields = parser.parse_parser(10)?;
+        let mut ahead = parser.fork();
+        let owner = ParsedName::parse(&mut ahead)?;
+        let mut fields = ahead.parse_parser(10)?;
         let rtype = Rtype::from_int(fields.parse_u16()?);
         let class = fields.parse_u16()?;
         let ttl = fields.parse_u32()?;
         let len = fields.parse_u16()?;
-        let rdata = parser.parse_parser(usize::from(len))?;
+        let rdata = ahead.parse_parser(usize::from(len))?;
+        *parser = ahead;
         Ok(ParsedRecord {
             owner,
             rtype,

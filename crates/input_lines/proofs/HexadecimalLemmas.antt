@@ -60,3 +60,10 @@ pub table_value : (c : ℕ) → c < 256 → slice_index DIGIT_VALUES.now c ≡ i
 table_value c small =
     let from_0 : 0 + c ≡ c = omega arith in
     is_table-at DIGIT_VALUES.now 0 c refl small ∙ ap in_table from_0
+
+-- no digits give no octets
+pub no_octets : (text octets : List ℕ) → length text ≡ 0 → octets ≡ []
+    → Some octets ≡ hexadecimal_octets text
+unfolding decode_pairs
+no_octets [] octets none is = ap Some is
+no_octets (c ∷ text) octets none is = absurd (omega (arith, none))

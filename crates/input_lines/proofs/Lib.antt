@@ -3,3 +3,4 @@ pub mod LineLemmas
 pub mod NumberLemmas
 pub mod SpellingLemmas
 pub mod TokenLemmas
+pub mod EntryFaults

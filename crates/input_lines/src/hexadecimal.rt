@@ -1,8 +1,8 @@
 //! Octets in hexadecimal.
-ghost use Rattle.std.specs.Prelude.{◌≡◌, ◌*◌, ◌<◌, ℕ, None, Some, drop, length, IfOk, MatchOption, slice_get, slice_index, option_and_then, unwrap_or};
+ghost use Rattle.std.specs.Prelude.{◌≡◌, ◌*◌, ◌<◌, ℕ, None, Some, drop, length, IfOk, OnErr, IsErrOf, IsSomeAnd, MatchOption, slice_get, slice_index, option_and_then, unwrap_or};
 ghost use Rattle.std.specs.Result.{result_ok};
 ghost use Rattle.hex.specs.Hex.{hex_digit_value, pair_value};
-ghost use Rattle.input_lines.specs.Hexadecimal.{hexadecimal_octets};
+ghost use Rattle.input_lines.specs.Hexadecimal.{hexadecimal_octets, IsInPairs};
 ghost use Rattle.input_lines.specs.Spelling.{line_or_fault, SpellsAs};
 
 use crate::faults::{InputFault, SpellError};
@@ -71,10 +71,16 @@ fn decode(digits: &[u8], octets: &mut [u8]) -> Option<()>
     Some(())
 }
 
-/// Reads an even count of hexadecimal digits, in either case. Fails only with `NoMemory`.
+/// Reads an even count of hexadecimal digits, in either case. Fails only with `NoMemory`, where the count is even and
+/// not 0.
+#[tactic(auto, using(crate::proofs::HexadecimalLemmas::no_octets))]
 pub fn octets_in(alloc: Global, text: &[u8]) -> Result<Option<Octets>, NoMemory>
-    ensures { IfOk result (λ octets. octets ≡ hexadecimal_octets text.now) }
+    ensures value { IfOk result (λ octets. octets ≡ hexadecimal_octets text.now) }
+    ensures memory { OnErr result (IsInPairs text.now) }
 {
+    if text.is_empty() {
+        return Ok(Some(Octets::from_vec(Vec::new(alloc))));
+    }
     if text.len() % 2 != 0 {
         return Ok(None);
     }
@@ -85,11 +91,14 @@ pub fn octets_in(alloc: Global, text: &[u8]) -> Result<Option<Octets>, NoMemory>
     }
 }
 
-/// Reads the next line, which has this number, as hexadecimal. `Fault` says that it is missing or bad.
+/// Reads the next line, which has this number, as hexadecimal. `Fault` says that it is missing or bad, and comes surely
+/// where it is missing or has an odd count of octets.
 pub fn octets_line(alloc: Global, input: &mut Lines<'_>, number: u64) -> Result<Octets, SpellError>
     ensures value { SpellsAs (λ octets. octets) result
         (line_or_fault number (option_and_then hexadecimal_octets (slice_get input.old 0))) }
     ensures rest { input.new ≡ drop 1 input.old }
+    ensures memory { IsErrOf result SpellError.NoMemory
+        → IsSomeAnd (slice_get input.old 0) IsInPairs }
 {
     let line = input.next().ok_or(InputFault::BadLine(number))?;
     let octets = octets_in(alloc, line)?;

@@ -2,6 +2,10 @@
 #![tactic(auto)]
 
 #[cfg(test)]
+mod aliases;
+#[cfg(test)]
+mod contents;
+#[cfg(test)]
 mod faults;
 #[cfg(test)]
 mod headers;

@@ -1,5 +1,6 @@
 //! Messages: their header, questions and records.
 
 pub use dns_message::{
-    Entries, FoundRecords, Header, Message, ParseEntry, ParsedRecord, Question, Questions, Records,
+    AliasError, Entries, FoundRecords, Header, Message, ParseEntry, ParsedRecord, Question,
+    Questions, Records,
 };
