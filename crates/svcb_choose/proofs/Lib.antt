@@ -1,4 +1,5 @@
 mod HeldKeys
+mod KeySets
 mod WholeValues
 mod ProtocolSets
 mod Places
