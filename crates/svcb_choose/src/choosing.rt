@@ -5,7 +5,7 @@ ghost use Rattle.svcb_choose.specs.Choosing.{alias_of, choice, endpoint_of, endp
 ghost use Rattle.svcb_choose.specs.Choices.{BeginsWithAlias, HasUsable};
 
 use crate::choice::{Choice, Endpoint, Endpoints};
-use crate::protocols::protocols_of;
+use crate::protocols::{distinct_defaults, protocols_of};
 use crate::usability::{is_usable, key_set};
 use registry::SvcParamKey;
 use std::alloc::Global;
@@ -86,7 +86,8 @@ fn usable_endpoints<V: SvcVariant>(
         ≡ endpoints_from owner.now understood.now defaults.now 0 records.now) }
 {
     let known = key_set(alloc, understood)?;
-    let endpoints = endpoints_of(alloc, owner, records, &known, defaults)?;
+    let distinct = distinct_defaults(alloc, defaults)?;
+    let endpoints = endpoints_of(alloc, owner, records, &known, distinct.as_slice())?;
     Ok(endpoints)
 }
 
