@@ -2,7 +2,7 @@
 use Rattle.std.proofs.Common.{◌≡◌, ℕ, ◌+◌, ◌<◌, Bool, true, false, cond, ◌||◌, List, [], ◌∷◌, length, get_or, drop, refl, sym, ap, ◌∙◌}
 use Rattle.std.specs.Prelude.{◌==◌, ◌&&◌, Option, Some, None}
 use Rattle.std.specs.List.{list_any, list_all}
-use Rattle.std.specs.Ordering.{nat_cmp, is_eq}
+use Rattle.std.specs.Ordering.{nat_cmp}
 use Rattle.std.specs.Cmp.{unsigned_ties, nat_eq_equiv}
 use Rattle.std.specs.BTreeSet.{BTreeSet, contains, Updates}
 use Rattle.std.specs.BTreeMap.{is_at}
@@ -14,7 +14,7 @@ use Rattle.svcb_spec.specs.Records.{Record}
 use Rattle.svcb_spec.specs.PrintedParams.{holds_key, ascends_above, has_some}
 use Rattle.svcb_spec.specs.ParamTexts.{mandatory_keys}
 use Rattle.svcb_params.specs.Items.{typed_at}
-use Rattle.svcb_choose.specs.Usability.{are_well_formed, is_understood, are_met, has_met_keys, has_named_protocols, has_alpn_for_no_default, is_usable, HasKeysOf}
+use Rattle.svcb_choose.specs.Usability.{are_well_formed, is_understood, are_met, has_named_protocols, has_alpn_for_no_default, is_usable, HasKeysOf}
 use Rattle.svcb_choose.specs.Choosing.{endpoint_of, endpoints_from}
 
 -- whether a number is in a set
