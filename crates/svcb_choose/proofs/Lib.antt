@@ -1,5 +1,7 @@
 mod HeldKeys
+mod KeySets
 mod WholeValues
 mod ProtocolSets
+mod DistinctDefaults
 mod Places
 mod Vectors

@@ -16,6 +16,10 @@ or_last true false = refl
 or_last false true = refl
 or_last false false = refl
 
+-- a set without protocols
+pub none_known : (known : BTreeSet (Bor (List ℕ))) → known.keys ≡ [] → IsSetOf known []
+none_known known empty protocol = ap (λ keys. list_any (is_at (by_octets protocol)) keys) empty
+
 -- a set and a list take the same protocol
 pub both_take : (old new : BTreeSet (Bor (List ℕ))) (listed : List (List ℕ))
     (added : Bor (List ℕ)) → IsSetOf old listed → Updates by_octets old new added true

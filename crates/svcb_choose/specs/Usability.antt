@@ -1,7 +1,7 @@
 -- Which records a client can use (RFC 9460, sections 7.1 and 8): four facts of a record's
 -- parameters, which are its pairs of a key and octets. The last three take malformed octets as no
 -- value, which the first refuses.
-use Rattle.std.specs.Prelude.{ℕ, ◌==◌, Bool, true, ◌&&◌, ◌||◌, not, List, [], is_some, is_ok}
+use Rattle.std.specs.Prelude.{◌≡◌, ℕ, ◌==◌, Bool, true, ◌&&◌, ◌||◌, not, List, [], is_some, is_ok}
 use Rattle.std.specs.List.{list_all, list_any}
 use Rattle.std.specs.Option.{option_map_or}
 use Rattle.svcb_spec.specs.Params.{Pairs}
@@ -20,6 +20,10 @@ are_well_formed pairs =
 -- a client understands a key
 abbrev pub is_understood : List ℕ → ℕ → Bool
 is_understood understood key = list_any (λ other. other == key) understood
+
+-- two lists have the same keys
+abbrev pub HasKeysOf : List ℕ → List ℕ → Type 0
+HasKeysOf known keys = (key : ℕ) → is_understood known key ≡ is_understood keys key
 
 -- The keys that `mandatory` lists: there is one, they ascend strictly, 0 is not among them, and
 -- each is a key of the record and is understood.

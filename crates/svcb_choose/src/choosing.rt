@@ -1,14 +1,15 @@
 //! The choice for an owner.
 
-ghost use Rattle.std.specs.Prelude.{◌≡◌, ◌≢◌, ◌↔◌, ℕ, List, [], true, IfOk};
+ghost use Rattle.std.specs.Prelude.{◌≡◌, ◌≢◌, ◌↔◌, ℕ, List, [], true, IfOk, OnErr};
 ghost use Rattle.svcb_choose.specs.Choosing.{alias_of, choice, endpoint_of, endpoints_from, priorities_ascend};
 ghost use Rattle.svcb_choose.specs.Choices.{BeginsWithAlias, HasUsable};
 
 use crate::choice::{Choice, Endpoint, Endpoints};
-use crate::protocols::protocols_of;
-use crate::usability::is_usable;
+use crate::protocols::{distinct_defaults, protocols_of};
+use crate::usability::{is_usable, key_set};
 use registry::SvcParamKey;
 use std::alloc::Global;
+use std::collections::BTreeSet;
 use svcb_rdata::{SvcVariant, SvcbRdata};
 use wire_base::{Name, NoMemory, Octets};
 
@@ -43,9 +44,7 @@ pub fn priorities_ascend<V: SvcVariant>(records: &[SvcbRdata<V>]) -> bool
 /// An endpoint has the record's target, or the owner where that is the root (section 2.5.2); its port; the protocols
 /// of `alpn`; and behind these, unless `no-default-alpn` is there, each default that isn't in the list so far.
 ///
-/// Each mandatory key of a record is looked up in the list of understood keys, which is meant to be short.
-///
-/// Fails only with `NoMemory`.
+/// Fails only with `NoMemory`, and only where there is a record, and not an alias to the root.
 #[tactic(auto, unfolding(crate::specs::Choosing::choice))]
 pub fn choose<V: SvcVariant>(
     alloc: Global,
@@ -62,28 +61,21 @@ pub fn choose<V: SvcVariant>(
     ensures unavailable { IfOk result (λ chosen. chosen ≡ Choice.Unavailable
         ↔ BeginsWithAlias records.now []) }
     ensures usable { IfOk result (HasUsable owner.now understood.now records.now) }
+    // No memory is wanted where there is no record, or no service.
+    ensures memory { OnErr result ((records.now ≢ []) × ¬ (BeginsWithAlias records.now [])) }
 {
-    if let Some(first) = records.first() {
-        if first.is_alias() {
-            return alias_of(alloc, first.target());
-        }
+    let Some(first) = records.first() else {
+        return Ok(Choice::Endpoints(Endpoints::from_vec(Vec::new(alloc))));
+    };
+    if first.is_alias() {
+        return alias_of(alloc, first.target());
     }
-    let endpoints = endpoints_of(alloc, owner, records, understood, defaults)?;
+    let endpoints = usable_endpoints(alloc, owner, records, understood, defaults)?;
     Ok(Choice::Endpoints(Endpoints::from_vec(endpoints)))
 }
 
-/// What a record in alias mode leads to. Fails only with `NoMemory`.
-fn alias_of(alloc: Global, target: &Name) -> Result<Choice, NoMemory>
-    ensures { IfOk result (λ chosen. chosen ≡ alias_of target.now) }
-{
-    if target.is_root() {
-        return Ok(Choice::Unavailable);
-    }
-    Ok(Choice::Alias(target.try_clone(alloc)?))
-}
-
-/// The endpoints of the usable records in order. Fails only with `NoMemory`.
-fn endpoints_of<V: SvcVariant>(
+/// The endpoints of the records that a client can use, which understands these keys. Fails only with `NoMemory`.
+fn usable_endpoints<V: SvcVariant>(
     alloc: Global,
     owner: &Name,
     records: &[SvcbRdata<V>],
@@ -93,9 +85,37 @@ fn endpoints_of<V: SvcVariant>(
     ensures { IfOk result (λ endpoints. endpoints.items
         ≡ endpoints_from owner.now understood.now defaults.now 0 records.now) }
 {
+    let known = key_set(alloc, understood)?;
+    let distinct = distinct_defaults(alloc, defaults)?;
+    let endpoints = endpoints_of(alloc, owner, records, &known, distinct.as_slice())?;
+    Ok(endpoints)
+}
+
+/// What a record in alias mode leads to. Fails only with `NoMemory`.
+fn alias_of(alloc: Global, target: &Name) -> Result<Choice, NoMemory>
+    ensures value { IfOk result (λ chosen. chosen ≡ alias_of target.now) }
+    ensures memory { OnErr result (target.now ≢ []) }
+{
+    if target.is_root() {
+        return Ok(Choice::Unavailable);
+    }
+    Ok(Choice::Alias(target.try_clone(alloc)?))
+}
+
+/// The endpoints of the records whose mandatory keys are known, in order. Fails only with `NoMemory`.
+fn endpoints_of<V: SvcVariant>(
+    alloc: Global,
+    owner: &Name,
+    records: &[SvcbRdata<V>],
+    known: &BTreeSet<u16>,
+    defaults: &[Octets],
+) -> Result<Vec<Endpoint>, NoMemory>
+    ensures { IfOk result (λ endpoints. endpoints.items
+        ≡ endpoints_from owner.now known.now.keys defaults.now 0 records.now) }
+{
     let mut endpoints = Vec::new(alloc);
     for (index, found) in records.iter().enumerate() {
-        if is_usable(found.params(), understood) {
+        if is_usable(found.params(), known) {
             endpoints.push(endpoint_of(alloc, owner, index, found, defaults)?)?;
         }
     }

@@ -1,6 +1,6 @@
 //! The protocols of an endpoint.
 
-ghost use Rattle.std.specs.Prelude.{◌≡◌, IfOk};
+ghost use Rattle.std.specs.Prelude.{◌≡◌, [], IfOk};
 ghost use Rattle.svcb_choose.specs.Protocols.{alpn_items, protocols_of, with_defaults, IsSetOf};
 
 use crate::choice::Protocols;
@@ -24,6 +24,16 @@ pub(crate) fn protocols_of(
         add_defaults(alloc, &mut listed, known, defaults)?;
     }
     Ok(Protocols::from_vec(listed))
+}
+
+/// The defaults, of equal ones the first alone. Fails only with `NoMemory`.
+#[tactic(auto, using(crate::proofs::ProtocolSets::none_known))]
+pub(crate) fn distinct_defaults(alloc: Global, defaults: &[Octets]) -> Result<Vec<Octets>, NoMemory>
+    ensures { IfOk result (λ distinct. distinct.items ≡ with_defaults [] defaults.now) }
+{
+    let mut distinct = Vec::new(alloc);
+    add_defaults(alloc, &mut distinct, BTreeSet::new(alloc), defaults)?;
+    Ok(distinct)
 }
 
 /// The protocols that the record lists. Fails only with `NoMemory`.

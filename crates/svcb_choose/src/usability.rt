@@ -1,6 +1,6 @@
 //! Which records a client can use.
 
-ghost use Rattle.std.specs.Prelude.{◌≡◌, ◌<◌, ◌&&◌, ℕ};
+ghost use Rattle.std.specs.Prelude.{◌≡◌, ◌<◌, ◌&&◌, ℕ, IfOk};
 ghost use Rattle.std.specs.Bool.{OnTrue};
 ghost use Rattle.std.specs.List.{list_all};
 ghost use Rattle.svcb_spec.specs.Params.{IsMap};
@@ -9,16 +9,30 @@ ghost use Rattle.svcb_spec.specs.PrintedParams.{holds_key, ascends_above, has_so
 ghost use Rattle.svcb_choose.specs.Usability as usability;
 
 use registry::SvcParamKey;
+use std::alloc::Global;
+use std::collections::BTreeSet;
 use svcb_list::{AlpnIter, MandatoryIter};
 use svcb_params::{RawIter, SvcParams};
+use wire_base::NoMemory;
 
-/// Whether a client that understands these keys can use a record of these parameters.
+/// The numbers of keys, as a set. Fails only with `NoMemory`.
+pub(crate) fn key_set(alloc: Global, keys: &[SvcParamKey]) -> Result<BTreeSet<u16>, NoMemory>
+    ensures { IfOk result (λ known. usability.HasKeysOf known.keys keys.now) }
+{
+    let mut known = BTreeSet::new(alloc);
+    for key in keys {
+        known.insert(u16::from(*key))?;
+    }
+    Ok(known)
+}
+
+/// Whether a client that understands the keys in a set can use a record of these parameters.
 #[tactic(auto, unfolding(crate::specs::Usability::is_usable))]
-pub(crate) fn is_usable(params: &SvcParams, understood: &[SvcParamKey]) -> bool
-    ensures { result ≡ usability.is_usable understood.now params.now }
+pub(crate) fn is_usable(params: &SvcParams, known: &BTreeSet<u16>) -> bool
+    ensures { result ≡ usability.is_usable known.now.keys params.now }
 {
     are_well_formed(params)
-        && has_met_keys(params, understood)
+        && has_met_keys(params, known)
         && has_named_protocols(params)
         && has_alpn_for_no_default(params)
 }
@@ -37,15 +51,15 @@ fn are_well_formed(params: &SvcParams) -> bool
 }
 
 /// Whether the mandatory keys, where there are any, are keys of the record and are understood.
-fn has_met_keys(params: &SvcParams, understood: &[SvcParamKey]) -> bool
-    ensures { result ≡ usability.has_met_keys understood.now params.now }
+fn has_met_keys(params: &SvcParams, known: &BTreeSet<u16>) -> bool
+    ensures { result ≡ usability.has_met_keys known.now.keys params.now }
 {
     let Some(mandatory) = params.mandatory() else {
         return true;
     };
     !mandatory.slice.is_empty()
         && are_there(mandatory.iter(), params.iter_raw())
-        && are_understood(mandatory.iter(), understood)
+        && are_understood(mandatory.iter(), known)
 }
 
 /// Whether keys ascend strictly from above 0, and pairs have each of them. The pairs ascend too, so one walk over both
@@ -86,11 +100,12 @@ fn pass_to(pairs: &mut RawIter<'_>, key: u16) -> bool
 }
 
 /// Whether a client understands each of these keys.
-fn are_understood(keys: MandatoryIter<'_>, understood: &[SvcParamKey]) -> bool
-    ensures { result ≡ list_all (usability.is_understood understood.now) (numbers keys.entry) }
+#[tactic(auto, using(crate::proofs::KeySets::has_number))]
+fn are_understood(keys: MandatoryIter<'_>, known: &BTreeSet<u16>) -> bool
+    ensures { result ≡ list_all (usability.is_understood known.now.keys) (numbers keys.entry) }
 {
     for key in keys {
-        if !understood.contains(&key) {
+        if !known.contains(&u16::from(key)) {
             return false;
         }
     }

@@ -6,5 +6,5 @@ use Rattle.svcb_choose.proofs.usability.are_understood.Given as goal
 
 abbrev pub invariant-loop-key : goal.invariant-loop-key
 invariant-loop-key l =
-    list_all (is_understood l.understood) (numbers l.fn.keys)
-    ≡ list_all (is_understood l.understood) (numbers l.key-iterator)
+    list_all (is_understood l.known.keys) (numbers l.fn.keys)
+    ≡ list_all (is_understood l.known.keys) (numbers l.key-iterator)
