@@ -148,21 +148,28 @@ fn published_zones_match(rt: HostRuntime) -> Result<(), Fail> {
 }
 
 /// Inputs, each with what is written, without its last LF.
-const CHECKED: [(&str, &str); 35] = [
-    // no record, and those that the digest leaves out
+const CHECKED: [(&str, &str); 36] = [
+    // no record, those that the digest leaves out, and one that it covers
     (
         "example.\n\
-         00000000010138b060a751ac96384cd9327eb1b1e36a21fdb71114be07434c0cc7bf63f6e1da274edebfe76f65fb\
+         00000001010138b060a751ac96384cd9327eb1b1e36a21fdb71114be07434c0cc7bf63f6e1da274edebfe76f65fb\
          d51ad2f14898b95b\n",
         "match",
     ),
     (
         "example.\n\
-         00000000010138b060a751ac96384cd9327eb1b1e36a21fdb71114be07434c0cc7bf63f6e1da274edebfe76f65fb\
+         00000001010138b060a751ac96384cd9327eb1b1e36a21fdb71114be07434c0cc7bf63f6e1da274edebfe76f65fb\
          d51ad2f14898b95b\n\
          example. 46 1 3600 003f00\n\
          example. 63 1 3600 00\n",
         "match",
+    ),
+    (
+        "example.\n\
+         00000001010138b060a751ac96384cd9327eb1b1e36a21fdb71114be07434c0cc7bf63f6e1da274edebfe76f65fb\
+         d51ad2f14898b95b\n\
+         a.example. 1 1 3600 c0000201\n",
+        "mismatch",
     ),
     (
         "example.\n\
@@ -412,7 +419,7 @@ const CHECKED: [(&str, &str); 35] = [
     // another scheme, and algorithms but SHA-384 and SHA-512
     (
         "example.\n\
-         00000000020138b060a751ac96384cd9327eb1b1e36a21fdb71114be07434c0cc7bf63f6e1da274edebfe76f65fb\
+         00000001020138b060a751ac96384cd9327eb1b1e36a21fdb71114be07434c0cc7bf63f6e1da274edebfe76f65fb\
          d51ad2f14898b95b\n",
         "unsupported",
     ),
@@ -606,7 +613,7 @@ const NOT_CHECKED: [(&str, &str); 28] = [
     // owners, types and data that fall
     (
         "example.\n\
-         00000000010138b060a751ac96384cd9327eb1b1e36a21fdb71114be07434c0cc7bf63f6e1da274edebfe76f65fb\
+         00000001010138b060a751ac96384cd9327eb1b1e36a21fdb71114be07434c0cc7bf63f6e1da274edebfe76f65fb\
          d51ad2f14898b95b\n\
          b.example. 1 1 0 00\n\
          a.example. 1 1 0 00\n",
