@@ -67,6 +67,15 @@ static uint32_t choose(void) {
     return hw_svcb_choose((const uint8_t *)lines, strlen(lines), target, sizeof target, &written, &order);
 }
 
+static uint32_t name_text(void) {
+    static const uint8_t name[] = {3, 'w', 'w', 'w', 7, 'e', 'x', 'a', 'm', 'p', 'l', 'e', 0};
+    return hw_name_text(name, sizeof name, target, sizeof target, &written);
+}
+
+static uint32_t name_scan(void) {
+    return hw_name_scan((const uint8_t *)"www.example.", 12, target, sizeof target, &written);
+}
+
 static void clear(void) {
     memset(target, 0x5a, sizeof target);
     memset(replies, 0x5a, sizeof replies);
@@ -84,8 +93,10 @@ int main(void) {
     const struct {
         const char *name;
         uint32_t (*call)(void);
-    } calls[] = {{"hw_rr_scan", scan}, {"hw_rr_text", text}, {"hw_rr_canonical_cmp", compare}, {"hw_svcb_rebuild", rebuild},
-                 {"hw_svcb_choose", choose}};
+    } calls[] = {{"hw_rr_scan", scan},           {"hw_rr_text", text},
+                 {"hw_rr_canonical_cmp", compare}, {"hw_svcb_rebuild", rebuild},
+                 {"hw_svcb_choose", choose},       {"hw_name_text", name_text},
+                 {"hw_name_scan", name_scan}};
     static uint8_t due[sizeof target];
     int failures = 0;
 
