@@ -6,12 +6,12 @@
    What is asked of the caller, and tested by nothing:
 
    - A pointer is aligned, and good for as many items as the count behind it says. It may be NULL where that count is 0.
-   - What a call writes (target, replies, written, record, param, order, owner, outcome) overlaps nothing else that the
-     call is given, and holds something: zero it, or have written it before.
+   - What a call writes (target, replies, written, record, param, port, number, item, order, owner, outcome) overlaps
+     nothing else that the call is given, and holds something: zero it, or have written it before.
    - No other thread writes what a call reads, or touches what it writes, while the call runs.
-   - malloc, realloc and free are one allocator. rr_text, rr_scan, rr_canonical_cmp, svcb_rebuild, svcb_choose,
-     cds_check and zonemd_check call them: not from a signal handler, nor in the forked child of a process with threads.
-     The other calls take no memory.
+   - malloc, realloc and free are one allocator. hw_rr_text, hw_rr_scan, hw_rr_canonical_cmp, hw_svcb_rebuild,
+     hw_name_text, hw_name_scan, hw_svcb_choose, hw_cds_check and hw_zonemd_check call them: not from a signal handler,
+     nor in the forked child of a process with threads. The other calls take no memory.
 
    The library has no state, keeps no pointer, hands out none, and starts nothing: any number of threads may call it at
    once. There is nothing to free.
@@ -51,8 +51,10 @@ enum {
     HW_E_ARGUMENT = 7,
     /* Memory is wanting. */
     HW_E_MEMORY = 8,
-    /* There is no further parameter. */
+    /* There is no further parameter, and no further item of a value. */
     HW_END = 9,
+    /* The type's data has names, which this library doesn't read yet. */
+    HW_E_TYPE = 10,
 
     /* the first fault of a text */
 
@@ -165,20 +167,21 @@ uint32_t hw_message_next(const uint8_t *message, size_t message_len, size_t pos,
 
 /* The text of the record data in the `len` octets from `start` on in a message, under the number of a type. Names in it
    are followed through the whole message, and stand in the text uncompressed. HW_E_PLACE: the data isn't within the
-   message. HW_E_SHORT, HW_E_FORM: its first fault. */
-uint32_t rr_text(uint16_t rtype, const uint8_t *message, size_t message_len, size_t start, size_t len,
-                 uint8_t *target, size_t target_room, size_t *written);
+   message. HW_E_TYPE: the type's data has names, which aren't read yet: NS, MD, MF, CNAME, SOA, MB, MG, MR, PTR, MINFO,
+   MX, RP, AFSDB, RT, SIG, PX, NXT, SRV, NAPTR, KX, A6, DNAME and RRSIG. HW_E_SHORT, HW_E_FORM: its first fault. */
+uint32_t hw_rr_text(uint16_t rtype, const uint8_t *message, size_t message_len, size_t start, size_t len,
+                    uint8_t *target, size_t target_room, size_t *written);
 
 /* The octets of the record data that the text of one entry of a zone file spells, behind the type: at most 65,535. The
    first fault of the text has a status from HW_S_END_OF_ENTRY on. */
-uint32_t rr_scan(uint16_t rtype, const uint8_t *text, size_t text_len,
-                 uint8_t *target, size_t target_room, size_t *written);
+uint32_t hw_rr_scan(uint16_t rtype, const uint8_t *text, size_t text_len,
+                    uint8_t *target, size_t target_room, size_t *written);
 
 /* The canonical order (RFC 4034, section 6.3) of the data of two records of one type: *order is 0 where the first
-   stands before the second, 1 where they are the same, 2 where it stands behind. HW_E_SHORT, HW_E_FORM: the first fault
-   of the first data, or else of the second. */
-uint32_t rr_canonical_cmp(uint16_t rtype, const uint8_t *first, size_t first_len,
-                          const uint8_t *second, size_t second_len, uint32_t *order);
+   stands before the second, 1 where they are the same, 2 where it stands behind. HW_E_TYPE: as in
+   hw_rr_text. HW_E_SHORT, HW_E_FORM: the first fault of the first data, or else of the second. */
+uint32_t hw_rr_canonical_cmp(uint16_t rtype, const uint8_t *first, size_t first_len,
+                             const uint8_t *second, size_t second_len, uint32_t *order);
 
 /* ---- SVCB and HTTPS */
 
@@ -201,24 +204,62 @@ typedef struct {
 typedef svcb_param svcb_push;
 
 /* Reads the data of an SVCB or HTTPS record in the `len` octets from `start` on in a message, and writes its target
-   uncompressed into the buffer, where 255 octets are always enough. HW_E_PLACE, HW_E_SHORT, HW_E_FORM as in rr_text;
+   uncompressed into the buffer, where 255 octets are always enough. HW_E_PLACE, HW_E_SHORT, HW_E_FORM as in hw_rr_text;
    HW_E_ROOM: the target is longer than its buffer. */
-uint32_t svcb_read(const uint8_t *message, size_t message_len, size_t start, size_t len,
-                   uint8_t *target, size_t target_room, svcb_record *record);
+uint32_t hw_svcb_read(const uint8_t *message, size_t message_len, size_t start, size_t len,
+                      uint8_t *target, size_t target_room, svcb_record *record);
 
-/* The parameter at a place, where the data ends at `end`, which is start + len of svcb_read. The first one stands at
+/* The parameter at a place, where the data ends at `end`, which is start + len of hw_svcb_read. The first one stands at
    params_start, each other at start + len of the one before it. HW_END: there is no further parameter. */
-uint32_t svcb_next(const uint8_t *message, size_t message_len, size_t end, size_t pos, svcb_param *param);
+uint32_t hw_svcb_next(const uint8_t *message, size_t message_len, size_t end, size_t pos, svcb_param *param);
 
 /* The data of an SVCB or HTTPS record with parameters added, its target uncompressed: the pushes are tried in order
    within a limit on the octets of all parameters in wire form, which is below 2^31. The replies have an octet for each
    push: 0 accepted, 1 its key is there already, 2 over the limit. HW_E_ARGUMENT: the limit is 2^31 or more, there are
    fewer replies than pushes, or the octets that a push names are not there. HW_E_LIMIT: the parameters that were read
    have more octets than the limit. HW_E_TOO_LONG: the result would have more than 65,535 octets. */
-uint32_t svcb_rebuild(const uint8_t *message, size_t message_len, size_t start, size_t len,
-                      const svcb_push *pushes, size_t push_count, const uint8_t *octets, size_t octets_len,
-                      size_t limit, uint8_t *target, size_t target_room,
-                      uint8_t *replies, size_t replies_room, size_t *written);
+uint32_t hw_svcb_rebuild(const uint8_t *message, size_t message_len, size_t start, size_t len,
+                         const svcb_push *pushes, size_t push_count, const uint8_t *octets, size_t octets_len,
+                         size_t limit, uint8_t *target, size_t target_room,
+                         uint8_t *replies, size_t replies_room, size_t *written);
+
+/* ---- the value of a parameter
+
+   Each call reads the octets of one value, which stand in the `len` octets from `start` on of its svcb_param. The calls
+   on items have no state: the first item stands at 0, and each other behind the one before it. HW_END: there is no
+   further item. HW_E_PLACE: the place is outside the value. */
+
+/* An item in a value: its octets are the `len` octets from `start` on, and the next item stands at start + len. */
+typedef struct {
+    size_t start;
+    size_t len;
+} hw_item;
+
+/* The port of a `port` parameter (RFC 9460, section 7.2). HW_E_SHORT, HW_E_FORM: there are fewer octets than two, or
+   more. */
+uint32_t hw_param_port(const uint8_t *value, size_t value_len, uint16_t *port);
+
+/* The key of a `mandatory` parameter or the group of a `tls-supported-groups` parameter at a place. The next one stands
+   at pos + 2. HW_E_FORM: only one octet is left. */
+uint32_t hw_param_number_next(const uint8_t *value, size_t value_len, size_t pos, uint16_t *number);
+
+/* The address of `len` octets at a place in the value of an `ipv4hint` (4) or `ipv6hint` (16) parameter. HW_E_FORM:
+   fewer octets are left. HW_E_ARGUMENT: `len` is neither 4 nor 16. */
+uint32_t hw_param_address_next(const uint8_t *value, size_t value_len, size_t len, size_t pos, hw_item *item);
+
+/* The protocol at a place in the value of an `alpn` parameter, without the octet of its length. HW_E_SHORT: it is cut
+   off. */
+uint32_t hw_param_alpn_next(const uint8_t *value, size_t value_len, size_t pos, hw_item *item);
+
+/* ---- names */
+
+/* The text of the name that octets wholly are, uncompressed, with its final dot: at most 1,004 octets. HW_E_SHORT,
+   HW_E_FORM: the first fault of the octets. */
+uint32_t hw_name_text(const uint8_t *octets, size_t octets_len, uint8_t *target, size_t target_room, size_t *written);
+
+/* The octets, uncompressed, of the name that a text spells: at most 255. It is absolute, with its final dot or without.
+   HW_S_BAD_NAME: it is no name text, or not the only token. */
+uint32_t hw_name_scan(const uint8_t *text, size_t text_len, uint8_t *target, size_t target_room, size_t *written);
 
 /* ---- checks of records that lines spell
 
@@ -229,18 +270,18 @@ uint32_t svcb_rebuild(const uint8_t *message, size_t message_len, size_t start, 
 /* The endpoints that a client chooses for an owner from its SVCB or HTTPS records (RFC 9460, sections 2.4 and 2.5).
    Line 1 is the owner, line 2 the keys that the client understands, with commas between them, or `-`, line 3 the
    protocols that the scheme has by itself, or `-`, and each other line the HEX of a record, by ascending priority. */
-uint32_t svcb_choose(const uint8_t *lines, size_t lines_len, uint8_t *target, size_t target_room, size_t *written,
+uint32_t hw_svcb_choose(const uint8_t *lines, size_t lines_len, uint8_t *target, size_t target_room, size_t *written,
                      uint32_t *outcome);
 
 /* Whether the CDS and CDNSKEY records of an owner ask the parent zone for the same keys (RFC 7344, section 4). Line 1
    is the owner; each other line is `cds HEX` or `cdnskey HEX`. */
-uint32_t cds_check(const uint8_t *lines, size_t lines_len, uint8_t *target, size_t target_room, size_t *written,
+uint32_t hw_cds_check(const uint8_t *lines, size_t lines_len, uint8_t *target, size_t target_room, size_t *written,
                    uint32_t *outcome);
 
 /* Whether a zone has the digest of its ZONEMD record (RFC 8976, section 4). Line 1 is the apex, line 2 the HEX of the
    ZONEMD record, and each other line a record of the zone in canonical order: owner, the numbers of type and class,
    TTL, and HEX. */
-uint32_t zonemd_check(const uint8_t *lines, size_t lines_len, uint8_t *target, size_t target_room, size_t *written,
+uint32_t hw_zonemd_check(const uint8_t *lines, size_t lines_len, uint8_t *target, size_t target_room, size_t *written,
                       uint32_t *outcome);
 
 /* ---- NULL: the library is never given it. These put an address in its place, where the count behind it is 0. */
@@ -264,28 +305,53 @@ static inline const svcb_push *hw_pushes(const svcb_push *pushes) {
 #define hw_message_begin(message, message_len, begun) hw_message_begin(hw_input(message), (message_len), (begun))
 #define hw_message_next(message, message_len, pos, owner, owner_room, record) \
     hw_message_next(hw_input(message), (message_len), (pos), hw_output(owner), (owner_room), (record))
-#define rr_text(rtype, message, message_len, start, len, target, target_room, written) \
-    rr_text((rtype), hw_input(message), (message_len), (start), (len), hw_output(target), (target_room), (written))
-#define rr_scan(rtype, text, text_len, target, target_room, written) \
-    rr_scan((rtype), hw_input(text), (text_len), hw_output(target), (target_room), (written))
-#define rr_canonical_cmp(rtype, first, first_len, second, second_len, order) \
-    rr_canonical_cmp((rtype), hw_input(first), (first_len), hw_input(second), (second_len), (order))
-#define svcb_read(message, message_len, start, len, target, target_room, record) \
-    svcb_read(hw_input(message), (message_len), (start), (len), hw_output(target), (target_room), (record))
-#define svcb_next(message, message_len, end, pos, param) \
-    svcb_next(hw_input(message), (message_len), (end), (pos), (param))
-#define svcb_rebuild(message, message_len, start, len, pushes, push_count, octets, octets_len, limit, target, \
+#define hw_rr_text(rtype, message, message_len, start, len, target, target_room, written) \
+    hw_rr_text((rtype), hw_input(message), (message_len), (start), (len), hw_output(target), (target_room), (written))
+#define hw_rr_scan(rtype, text, text_len, target, target_room, written) \
+    hw_rr_scan((rtype), hw_input(text), (text_len), hw_output(target), (target_room), (written))
+#define hw_rr_canonical_cmp(rtype, first, first_len, second, second_len, order) \
+    hw_rr_canonical_cmp((rtype), hw_input(first), (first_len), hw_input(second), (second_len), (order))
+#define hw_svcb_read(message, message_len, start, len, target, target_room, record) \
+    hw_svcb_read(hw_input(message), (message_len), (start), (len), hw_output(target), (target_room), (record))
+#define hw_svcb_next(message, message_len, end, pos, param) \
+    hw_svcb_next(hw_input(message), (message_len), (end), (pos), (param))
+#define hw_svcb_rebuild(message, message_len, start, len, pushes, push_count, octets, octets_len, limit, target, \
                      target_room, replies, replies_room, written) \
-    svcb_rebuild(hw_input(message), (message_len), (start), (len), hw_pushes(pushes), (push_count), \
+    hw_svcb_rebuild(hw_input(message), (message_len), (start), (len), hw_pushes(pushes), (push_count), \
                  hw_input(octets), (octets_len), (limit), hw_output(target), (target_room), \
                  hw_output(replies), (replies_room), (written))
 
-#define svcb_choose(lines, lines_len, target, target_room, written, outcome) \
-    svcb_choose(hw_input(lines), (lines_len), hw_output(target), (target_room), (written), (outcome))
-#define cds_check(lines, lines_len, target, target_room, written, outcome) \
-    cds_check(hw_input(lines), (lines_len), hw_output(target), (target_room), (written), (outcome))
-#define zonemd_check(lines, lines_len, target, target_room, written, outcome) \
-    zonemd_check(hw_input(lines), (lines_len), hw_output(target), (target_room), (written), (outcome))
+#define hw_svcb_choose(lines, lines_len, target, target_room, written, outcome) \
+    hw_svcb_choose(hw_input(lines), (lines_len), hw_output(target), (target_room), (written), (outcome))
+#define hw_cds_check(lines, lines_len, target, target_room, written, outcome) \
+    hw_cds_check(hw_input(lines), (lines_len), hw_output(target), (target_room), (written), (outcome))
+#define hw_zonemd_check(lines, lines_len, target, target_room, written, outcome) \
+    hw_zonemd_check(hw_input(lines), (lines_len), hw_output(target), (target_room), (written), (outcome))
+
+#define hw_param_port(value, value_len, port) hw_param_port(hw_input(value), (value_len), (port))
+#define hw_param_number_next(value, value_len, pos, number) \
+    hw_param_number_next(hw_input(value), (value_len), (pos), (number))
+#define hw_param_address_next(value, value_len, len, pos, item) \
+    hw_param_address_next(hw_input(value), (value_len), (len), (pos), (item))
+#define hw_param_alpn_next(value, value_len, pos, item) \
+    hw_param_alpn_next(hw_input(value), (value_len), (pos), (item))
+#define hw_name_text(octets, octets_len, target, target_room, written) \
+    hw_name_text(hw_input(octets), (octets_len), hw_output(target), (target_room), (written))
+#define hw_name_scan(text, text_len, target, target_room, written) \
+    hw_name_scan(hw_input(text), (text_len), hw_output(target), (target_room), (written))
+
+/* The names that the calls had in version 0.1. They go with version 0.3; define HW_NO_OLD_NAMES to be without them. */
+#ifndef HW_NO_OLD_NAMES
+#define rr_text hw_rr_text
+#define rr_scan hw_rr_scan
+#define rr_canonical_cmp hw_rr_canonical_cmp
+#define svcb_read hw_svcb_read
+#define svcb_next hw_svcb_next
+#define svcb_rebuild hw_svcb_rebuild
+#define svcb_choose hw_svcb_choose
+#define cds_check hw_cds_check
+#define zonemd_check hw_zonemd_check
+#endif
 
 /* How each structure lies in memory, as the library has it. */
 #if defined(__cplusplus)
@@ -299,6 +365,7 @@ HW_LAYOUT(sizeof(hw_message) == 24 && offsetof(hw_message, records_start) == 16)
 HW_LAYOUT(sizeof(hw_record) == 40 && offsetof(hw_record, owner_len) == 8 && offsetof(hw_record, next) == 32);
 HW_LAYOUT(sizeof(svcb_record) == 16 && offsetof(svcb_record, params_start) == 8);
 HW_LAYOUT(sizeof(svcb_param) == 16 && offsetof(svcb_param, start) == 8);
+HW_LAYOUT(sizeof(hw_item) == 16 && offsetof(hw_item, len) == 8);
 #endif
 
 #ifdef __cplusplus

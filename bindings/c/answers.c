@@ -23,8 +23,8 @@ int main(void) {
             given[len] = (uint8_t)(16 * digit(digits[2 * len]) + digit(digits[2 * len + 1]));
 
         int is_show = line[1] == 'h';
-        uint32_t status = is_show ? rr_text(rtype, given, len, 0, len, target, sizeof target, &written)
-                                  : rr_scan(rtype, given, len, target, sizeof target, &written);
+        uint32_t status = is_show ? hw_rr_text(rtype, given, len, 0, len, target, sizeof target, &written)
+                                  : hw_rr_scan(rtype, given, len, target, sizeof target, &written);
         if (status != HW_OK) {
             hw_status_text(status, target, sizeof target, &written);
             printf("error: %.*s\n", (int)written, (const char *)target);

@@ -20,20 +20,20 @@ int main(void) {
     static uint8_t data[65535], rebuilt[65535], shown[262144];
     size_t len = 0, count = 0;
 
-    uint32_t status = rr_scan(https, (const uint8_t *)text, strlen(text), data, sizeof data, &len);
+    uint32_t status = hw_rr_scan(https, (const uint8_t *)text, strlen(text), data, sizeof data, &len);
     if (status != HW_OK)
-        return refused("rr_scan", status);
+        return refused("hw_rr_scan", status);
 
     svcb_record record = {0, 0, 0, 0};
     uint8_t target[255] = {0};
-    status = svcb_read(data, len, 0, len, target, sizeof target, &record);
+    status = hw_svcb_read(data, len, 0, len, target, sizeof target, &record);
     if (status != HW_OK)
-        return refused("svcb_read", status);
+        return refused("hw_svcb_read", status);
     printf("priority %" PRIu16 ", %" PRIu32 " parameters\n", record.priority, record.params_count);
 
     svcb_param param = {0, 0, 0};
     size_t pos = record.params_start;
-    while (svcb_next(data, len, len, pos, &param) == HW_OK) {
+    while (hw_svcb_next(data, len, len, pos, &param) == HW_OK) {
         printf("key %" PRIu16 " has %" PRIu16 " octets\n", param.key, param.len);
         pos = param.start + param.len;
     }
@@ -42,15 +42,15 @@ int main(void) {
     const uint8_t address[] = {192, 0, 2, 1};
     const svcb_push push = {4, sizeof address, 0};
     uint8_t reply = 0;
-    status = svcb_rebuild(data, len, 0, len, &push, 1, address, sizeof address, 65535, rebuilt, sizeof rebuilt, &reply,
-                          1, &count);
+    status = hw_svcb_rebuild(data, len, 0, len, &push, 1, address, sizeof address, 65535, rebuilt, sizeof rebuilt,
+                             &reply, 1, &count);
     if (status != HW_OK)
-        return refused("svcb_rebuild", status);
+        return refused("hw_svcb_rebuild", status);
 
     size_t text_len = 0;
-    status = rr_text(https, rebuilt, count, 0, count, shown, sizeof shown, &text_len);
+    status = hw_rr_text(https, rebuilt, count, 0, count, shown, sizeof shown, &text_len);
     if (status != HW_OK)
-        return refused("rr_text", status);
+        return refused("hw_rr_text", status);
     printf("%.*s\n", (int)text_len, (const char *)shown);
     return 0;
 }

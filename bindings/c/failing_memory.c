@@ -45,26 +45,35 @@ static size_t len, written;
 static uint32_t order;
 
 static uint32_t scan(void) {
-    return rr_scan(65, (const uint8_t *)TEXT, strlen(TEXT), target, sizeof target, &written);
+    return hw_rr_scan(65, (const uint8_t *)TEXT, strlen(TEXT), target, sizeof target, &written);
 }
 
 static uint32_t text(void) {
-    return rr_text(65, data, len, 0, len, target, sizeof target, &written);
+    return hw_rr_text(65, data, len, 0, len, target, sizeof target, &written);
 }
 
 static uint32_t compare(void) {
-    return rr_canonical_cmp(65, data, len, data, len, &order);
+    return hw_rr_canonical_cmp(65, data, len, data, len, &order);
 }
 
 static uint32_t rebuild(void) {
     static const svcb_push push = {1234, 2, 0};
-    return svcb_rebuild(data, len, 0, len, &push, 1, (const uint8_t *)"ab", 2, 1000, target, sizeof target, replies, 1,
-                        &written);
+    return hw_svcb_rebuild(data, len, 0, len, &push, 1, (const uint8_t *)"ab", 2, 1000, target, sizeof target,
+                           replies, 1, &written);
 }
 
 static uint32_t choose(void) {
     static const char lines[] = "x.\nport\n-\n000100000300020035\n";
-    return svcb_choose((const uint8_t *)lines, strlen(lines), target, sizeof target, &written, &order);
+    return hw_svcb_choose((const uint8_t *)lines, strlen(lines), target, sizeof target, &written, &order);
+}
+
+static uint32_t name_text(void) {
+    static const uint8_t name[] = {3, 'w', 'w', 'w', 7, 'e', 'x', 'a', 'm', 'p', 'l', 'e', 0};
+    return hw_name_text(name, sizeof name, target, sizeof target, &written);
+}
+
+static uint32_t name_scan(void) {
+    return hw_name_scan((const uint8_t *)"www.example.", 12, target, sizeof target, &written);
 }
 
 static void clear(void) {
@@ -84,8 +93,10 @@ int main(void) {
     const struct {
         const char *name;
         uint32_t (*call)(void);
-    } calls[] = {{"rr_scan", scan}, {"rr_text", text}, {"rr_canonical_cmp", compare}, {"svcb_rebuild", rebuild},
-                 {"svcb_choose", choose}};
+    } calls[] = {{"hw_rr_scan", scan},           {"hw_rr_text", text},
+                 {"hw_rr_canonical_cmp", compare}, {"hw_svcb_rebuild", rebuild},
+                 {"hw_svcb_choose", choose},       {"hw_name_text", name_text},
+                 {"hw_name_scan", name_scan}};
     static uint8_t due[sizeof target];
     int failures = 0;
 

@@ -14,6 +14,7 @@ from ._library import canonical_cmp, scan, text, version
 from .checks import BadLines, check_cds, check_zonemd, choose
 from .errors import HollywhistError, ScanError, WireError
 from .messages import Message, Record
+from .names import Name
 from .records import TYPES, Https, Param, RecordData, Reply, ServiceData, Svcb
 
 __all__ = [
@@ -22,6 +23,7 @@ __all__ = [
     "HollywhistError",
     "Https",
     "Message",
+    "Name",
     "Param",
     "Record",
     "RecordData",

@@ -5,9 +5,11 @@ from __future__ import annotations
 import ctypes
 import os
 from ctypes import POINTER, byref, c_char_p, c_size_t, c_uint8, c_uint16, c_uint32, c_void_p
-from typing import Callable
+from typing import Callable, TypeVar
 
 from .errors import NAMES, check
+
+Found = TypeVar("Found", int, bytes)
 
 HW_OK = NAMES["HW_OK"]
 HW_E_ROOM = NAMES["HW_E_ROOM"]
@@ -65,7 +67,22 @@ class SvcbParam(ctypes.Structure):
     _fields_ = [("key", c_uint16), ("len", c_uint16), ("start", c_size_t)]
 
 
-_library = ctypes.CDLL(os.environ.get("HOLLYWHIST_SO", "libhollywhist.so.1"))
+class Item(ctypes.Structure):
+    """An item in the value of a parameter."""
+
+    _fields_ = [("start", c_size_t), ("len", c_size_t)]
+
+
+def _load() -> ctypes.CDLL:
+    """The library. `ImportError`: it can't be loaded."""
+    name = os.environ.get("HOLLYWHIST_SO", "libhollywhist.so.1")
+    try:
+        return ctypes.CDLL(name)
+    except OSError as error:
+        raise ImportError(f"{error}: set HOLLYWHIST_SO to the file libhollywhist.so.1") from error
+
+
+_library = _load()
 
 # The octets of a `bytes` are passed as they stand, and are never NULL.
 _OCTETS = [c_char_p, c_size_t]
@@ -82,13 +99,13 @@ def _call(name: str, *arguments: object) -> Callable[..., int]:
 _version = _call("hw_version")
 _message_begin = _call("hw_message_begin", _OCTETS, POINTER(Message))
 _message_next = _call("hw_message_next", _OCTETS, c_size_t, _TARGET, POINTER(Record))
-_text = _call("rr_text", c_uint16, _OCTETS, c_size_t, c_size_t, _TARGET, POINTER(c_size_t))
-_scan = _call("rr_scan", c_uint16, _OCTETS, _TARGET, POINTER(c_size_t))
-_canonical_cmp = _call("rr_canonical_cmp", c_uint16, _OCTETS, _OCTETS, POINTER(c_uint32))
-_svcb_read = _call("svcb_read", _OCTETS, c_size_t, c_size_t, _TARGET, POINTER(SvcbRecord))
-_svcb_next = _call("svcb_next", _OCTETS, c_size_t, c_size_t, POINTER(SvcbParam))
+_text = _call("hw_rr_text", c_uint16, _OCTETS, c_size_t, c_size_t, _TARGET, POINTER(c_size_t))
+_scan = _call("hw_rr_scan", c_uint16, _OCTETS, _TARGET, POINTER(c_size_t))
+_canonical_cmp = _call("hw_rr_canonical_cmp", c_uint16, _OCTETS, _OCTETS, POINTER(c_uint32))
+_svcb_read = _call("hw_svcb_read", _OCTETS, c_size_t, c_size_t, _TARGET, POINTER(SvcbRecord))
+_svcb_next = _call("hw_svcb_next", _OCTETS, c_size_t, c_size_t, POINTER(SvcbParam))
 _svcb_rebuild = _call(
-    "svcb_rebuild",
+    "hw_svcb_rebuild",
     _OCTETS,
     c_size_t,
     c_size_t,
@@ -99,9 +116,15 @@ _svcb_rebuild = _call(
     _TARGET,
     POINTER(c_size_t),
 )
-_choose = _call("svcb_choose", _OCTETS, _TARGET, POINTER(c_size_t), POINTER(c_uint32))
-_cds_check = _call("cds_check", _OCTETS, _TARGET, POINTER(c_size_t), POINTER(c_uint32))
-_zonemd_check = _call("zonemd_check", _OCTETS, _TARGET, POINTER(c_size_t), POINTER(c_uint32))
+_param_port = _call("hw_param_port", _OCTETS, POINTER(c_uint16))
+_param_number_next = _call("hw_param_number_next", _OCTETS, c_size_t, POINTER(c_uint16))
+_param_address_next = _call("hw_param_address_next", _OCTETS, c_size_t, c_size_t, POINTER(Item))
+_param_alpn_next = _call("hw_param_alpn_next", _OCTETS, c_size_t, POINTER(Item))
+_name_text = _call("hw_name_text", _OCTETS, _TARGET, POINTER(c_size_t))
+_name_scan = _call("hw_name_scan", _OCTETS, _TARGET, POINTER(c_size_t))
+_choose = _call("hw_svcb_choose", _OCTETS, _TARGET, POINTER(c_size_t), POINTER(c_uint32))
+_cds_check = _call("hw_cds_check", _OCTETS, _TARGET, POINTER(c_size_t), POINTER(c_uint32))
+_zonemd_check = _call("hw_zonemd_check", _OCTETS, _TARGET, POINTER(c_size_t), POINTER(c_uint32))
 
 
 def _place(number: int) -> int:
@@ -206,6 +229,61 @@ def svcb_rebuild(data: bytes, pushes: list[tuple[int, bytes]], limit: int) -> tu
         )
     )
     return octets, list(replies[: len(pushes)])
+
+
+def param_port(value: bytes) -> int:
+    """The port that the value of a `port` parameter is."""
+    port = c_uint16(0)
+    check(_param_port(value, len(value), byref(port)))
+    return port.value
+
+
+def param_numbers(value: bytes) -> list[int]:
+    """The keys of a `mandatory` parameter, or the groups of a `tls-supported-groups` parameter."""
+    number, pos, found = c_uint16(0), 0, []
+    while (status := _param_number_next(value, len(value), pos, byref(number))) == HW_OK:
+        found.append(number.value)
+        pos += 2
+    return _whole(status, found)
+
+
+def param_addresses(value: bytes, length: int) -> list[bytes]:
+    """The addresses, of 4 or 16 octets each, of an `ipv4hint` or `ipv6hint` parameter."""
+    return _items(lambda pos, item: _param_address_next(value, len(value), _place(length), pos, item), value)
+
+
+def param_alpn(value: bytes) -> list[bytes]:
+    """The protocols of an `alpn` parameter."""
+    return _items(lambda pos, item: _param_alpn_next(value, len(value), pos, item), value)
+
+
+def _items(call: Callable[..., int], value: bytes) -> list[bytes]:
+    item, pos, found = Item(), 0, []
+    while (status := call(pos, byref(item))) == HW_OK:
+        pos = item.start + item.len
+        found.append(value[item.start : pos])
+    return _whole(status, found)
+
+
+def _whole(status: int, found: list[Found]) -> list[Found]:
+    """What was found, where it ends with the value."""
+    if status != HW_END:
+        check(status)
+    return found
+
+
+def name_text(octets: bytes) -> str:
+    """The text of the name that octets wholly are, with its final dot."""
+    written_text = _written(
+        lambda target, room, written: _name_text(octets, len(octets), target, room, byref(written))
+    )
+    return written_text.decode("ascii")
+
+
+def name_scan(name: str | bytes) -> bytes:
+    """The octets of the name that a text spells, which is absolute."""
+    octets = name.encode("utf-8", "surrogateescape") if isinstance(name, str) else name
+    return _written(lambda target, room, written: _name_scan(octets, len(octets), target, room, byref(written)))
 
 
 def message_begin(message: bytes) -> Message:

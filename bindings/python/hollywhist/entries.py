@@ -1,6 +1,7 @@
 """Lines of `dig`, or of a zone file: owner, time to live, class, type and data.
 
-An entry in brackets goes over several lines. Comments, directives, and records of types without fields are left out.
+An entry in brackets goes over several lines. Names without a final dot are completed by the origin, and a record without
+a time to live has that of $TTL. Comments, other directives, and records of types without fields are left out.
 """
 
 from __future__ import annotations
@@ -10,12 +11,19 @@ from typing import Iterable, Iterator, NamedTuple
 
 from . import _library
 from .errors import HollywhistError, ScanError
+from .names import completed
 from .records import TYPES, Https, Param, RecordData, Svcb
 
 CLASS = re.compile(r"IN|CH|HS|CS|CLASS\d{1,5}", re.IGNORECASE)
 
 # A time to live in seconds, or with the units that BIND takes.
 TTL = re.compile(r"(?:\d+[smhdw]?)+", re.IGNORECASE)
+
+UNITS = {"": 1, "s": 1, "m": 60, "h": 3600, "d": 86400, "w": 604800}
+
+# Which token of the data is a name, by the number of the type. In IPSECKEY it is one where the gateway's type is 3.
+IPSECKEY = TYPES["IPSECKEY"]
+NAME_PLACES = {TYPES["SVCB"]: 1, TYPES["HTTPS"]: 1, IPSECKEY: 3}
 
 # What stands between tokens, and what a token is: octets in quotes and others, with escapes.
 GAP = re.compile(r"(?:[ \t\r\n()]|;[^\n]*)*")
@@ -41,6 +49,11 @@ class Entry(NamedTuple):
     rtype: str
     data: RecordData | Svcb | Https
 
+    @property
+    def seconds(self) -> int | None:
+        """The time to live in seconds, where there is one."""
+        return None if self.ttl is None else ttl_seconds(self.ttl)
+
 
 class Fault(NamedTuple):
     """A record whose data was refused: where, and why."""
@@ -51,15 +64,31 @@ class Fault(NamedTuple):
     error: HollywhistError
 
 
-def read(lines: Iterable[str]) -> Iterator[Entry | Fault]:
-    """What each record is, or the fault that it has."""
+def ttl_seconds(text: str) -> int:
+    """A time to live in seconds: `3600`, `1h`, `1h30m`. `ValueError`: the text is none."""
+    if not TTL.fullmatch(text):
+        raise ValueError(f"no time to live: {text}")
+    return sum(int(count) * UNITS[unit.lower()] for count, unit in re.findall(r"(\d+)([smhdw]?)", text, re.IGNORECASE))
+
+
+def read(lines: Iterable[str], origin: str | None = None) -> Iterator[Entry | Fault]:
+    """What each record is, or the fault that it has. The origin is an absolute name, which $ORIGIN changes. Names stay
+    as they are where there is none."""
     owner = ""
+    default_ttl = None
     for first, text in _joined(lines):
         tokens = list(_tokens(text, 0))
-        if not tokens or text.startswith((";", "$")):
+        if not tokens:
+            continue
+        if text.startswith("$"):
+            directive, *words = (token.group() for token in tokens)
+            if directive.upper() == "$ORIGIN" and words:
+                origin = _absolute(words[0], origin)
+            elif directive.upper() == "$TTL" and words and TTL.fullmatch(words[0]):
+                default_ttl = words[0]
             continue
         if not text[0].isspace():
-            owner = tokens.pop(0).group()
+            owner = _absolute(tokens.pop(0).group(), origin)
         found = _fields(tokens)
         if found is None:
             continue
@@ -68,8 +97,8 @@ def read(lines: Iterable[str]) -> Iterator[Entry | Fault]:
         if number is None:
             continue
         try:
-            data = _data(number, text[start:])
-            yield Entry(first, owner, ttl, rclass, rtype, data)
+            data = _data(number, _with_origin(number, text[start:], origin))
+            yield Entry(first, owner, default_ttl if ttl is None else ttl, rclass, rtype, data)
         except HollywhistError as error:
             yield Fault(_place(first, text, _fault_start(number, text, start, error)), owner, rtype, error)
 
@@ -117,6 +146,22 @@ def _fields(tokens: list[re.Match[str]]) -> tuple[str | None, str | None, str, i
         else:
             return ttl, rclass, word.upper(), token.end()
     return None
+
+
+def _absolute(name: str, origin: str | None) -> str:
+    return name if origin is None else completed(name, origin)
+
+
+def _with_origin(number: int, text: str, origin: str | None) -> str:
+    """The text of data, with the name in it completed."""
+    tokens = list(_tokens(text, 0))
+    place = NAME_PLACES.get(number)
+    if place is None or place >= len(tokens) or (number == IPSECKEY and tokens[1].group() != "3"):
+        return text
+    name = tokens[place]
+    if '"' in name.group():
+        return text
+    return text[: name.start()] + _absolute(name.group(), origin) + text[name.end() :]
 
 
 def _type_number(word: str) -> int | None:

@@ -14,6 +14,7 @@ NAMES = {
     "HW_E_ARGUMENT": 7,
     "HW_E_MEMORY": 8,
     "HW_END": 9,
+    "HW_E_TYPE": 10,
     "HW_S_END_OF_ENTRY": 64,
     "HW_S_BAD_SYMBOL": 65,
     "HW_S_BAD_ESCAPE": 66,
@@ -113,6 +114,13 @@ class WantOfMemory(HollywhistError):
 
     status = 8
     meaning = "want of memory"
+
+
+class UnreadType(HollywhistError):
+    """The type's data has names, which the library doesn't read yet."""
+
+    status = 10
+    meaning = "type with names that are not read"
 
 
 class EndOfEntry(ScanError):
@@ -342,6 +350,7 @@ _ERRORS: dict[int, type[HollywhistError]] = {
         TooLong,
         BadArgument,
         WantOfMemory,
+        UnreadType,
         EndOfEntry,
         BadSymbol,
         BadEscape,

@@ -4,6 +4,7 @@ from __future__ import annotations
 
 import enum
 import functools
+import ipaddress
 from typing import ClassVar, Iterator, NamedTuple, TypeVar
 
 from . import _library
@@ -148,6 +149,31 @@ class ServiceData:
     def get(self, key: int) -> bytes | None:
         """The octets of the value under a key, where it is there."""
         return self._values.get(key)
+
+    @property
+    def mandatory(self) -> list[int]:
+        """The keys that a client must understand."""
+        return _library.param_numbers(self._values.get(0, b""))
+
+    @property
+    def alpn(self) -> list[bytes]:
+        """The protocols that are listed."""
+        return _library.param_alpn(self._values.get(1, b""))
+
+    @property
+    def port(self) -> int | None:
+        """The port, where one is given."""
+        return None if 3 not in self._values else _library.param_port(self._values[3])
+
+    @property
+    def ipv4hint(self) -> list[ipaddress.IPv4Address]:
+        """The IPv4 addresses that are listed."""
+        return [ipaddress.IPv4Address(octets) for octets in _library.param_addresses(self._values.get(4, b""), 4)]
+
+    @property
+    def ipv6hint(self) -> list[ipaddress.IPv6Address]:
+        """The IPv6 addresses that are listed."""
+        return [ipaddress.IPv6Address(octets) for octets in _library.param_addresses(self._values.get(6, b""), 16)]
 
     def with_params(
         self: Service, pushes: list[tuple[int, bytes]], limit: int = MAX_LIMIT

@@ -9,9 +9,9 @@ from pathlib import Path
 from tempfile import NamedTemporaryFile
 
 import hollywhist
-from hollywhist import Https, Message, Param, RecordData, Reply, Svcb, errors
+from hollywhist import Https, Message, Name, Param, RecordData, Reply, Svcb, errors
 from hollywhist.__main__ import main
-from hollywhist.entries import Entry, Fault, Place, read
+from hollywhist.entries import Entry, Fault, Place, read, ttl_seconds
 
 # Priority 1, the root as target, port 53.
 DATA = bytes([0, 1, 0, 0, 3, 0, 2, 0, 53])
@@ -114,6 +114,29 @@ class LinesAreChecked(unittest.TestCase):
                 check("")
 
 
+class NamesAndValuesAreRead(unittest.TestCase):
+    def test_names(self) -> None:
+        name = Name.from_text("a\\.b.c")
+        self.assertEqual((str(name), name.to_wire()), ("a\\.b.c.", b"\x03a.b\x01c\x00"))
+        self.assertEqual(Name.from_text("WWW", Name(b"\x07example\x00")), Name(b"\x03www\x07EXAMPLE\x00"))
+        with self.assertRaises(errors.BadName):
+            Name.from_text("a..b")
+        with self.assertRaises(errors.ShortInput):
+            Name(b"\x01a")
+
+    def test_values(self) -> None:
+        https = Https.from_text("1 . mandatory=port alpn=h2,h3 port=53 ipv4hint=192.0.2.1,192.0.2.2 ipv6hint=::1")
+        self.assertEqual((https.mandatory, https.alpn, https.port), ([3], [b"h2", b"h3"], 53))
+        self.assertEqual([str(address) for address in https.ipv4hint], ["192.0.2.1", "192.0.2.2"])
+        self.assertEqual([str(address) for address in https.ipv6hint], ["::1"])
+        self.assertEqual((Https.from_wire(DATA).alpn, Https.from_wire(DATA).ipv4hint), ([], []))
+        self.assertIsNone(Https.from_text("1 .").port)
+
+    def test_unread_types(self) -> None:
+        with self.assertRaises(errors.UnreadType):
+            hollywhist.text(15, b"\0\1\0")
+
+
 class LinesAreRead(unittest.TestCase):
     def test_lines_of_dig(self) -> None:
         lines = [
@@ -138,6 +161,28 @@ class LinesAreRead(unittest.TestCase):
         assert isinstance(first, Entry) and isinstance(second, Entry)
         self.assertEqual((first.line, str(first.data)), (2, "1 . alpn=h2 port=8443"))
         self.assertEqual((second.line, second.owner, str(second.data)), (4, "a.example.", "192.0.2.1"))
+
+    def test_names_are_completed(self) -> None:
+        lines = [
+            "$ORIGIN example.\n",
+            "$TTL 1h30m\n",
+            "@ HTTPS 1 svc port=53\n",
+            "$ORIGIN sub\n",
+            "a HTTPS 0 @\n",
+            "a\\. 60 IPSECKEY 10 3 0 gateway\n",
+        ]
+        first, second, third = read(lines)
+        assert isinstance(first, Entry) and isinstance(second, Entry) and isinstance(third, Entry)
+        self.assertEqual((first.owner, str(first.data)), ("example.", "1 svc.example. port=53"))
+        self.assertEqual((first.seconds, third.seconds), (5400, 60))
+        self.assertEqual((second.owner, str(second.data)), ("a.sub.example.", "0 sub.example. "))
+        self.assertEqual(third.owner, "a\\..sub.example.")
+        self.assertEqual(third.data.to_wire(), b"\x0a\x03\x00\x07gateway\x03sub\x07example\x00")
+
+    def test_times(self) -> None:
+        self.assertEqual([ttl_seconds(text) for text in ("60", "1M", "1w1s")], [60, 60, 604801])
+        with self.assertRaises(ValueError):
+            ttl_seconds("1y")
 
     def test_places_of_faults(self) -> None:
         def place(*lines: str) -> Place:

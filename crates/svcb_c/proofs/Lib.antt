@@ -1,3 +1,5 @@
+pub mod FaultNumbers
 pub mod Filling
+pub mod ItemPlaces
 pub mod Next
 pub mod Whole

@@ -103,9 +103,10 @@ TakesMemory (Err spec.TooLong) = Unit {0}
 
 -- and the arguments are good
 pub record MayWantMemory (message : List ℕ) (start len : ℕ) (pushes : List SvcbPush)
-    (octets : List ℕ) (limit : ℕ) : Type 0 where
+    (octets : List ℕ) (limit replies : ℕ) : Type 0 where
   pub within : start + len ≤ length message
   pub in_range : limit < 2 ^ 31
+  pub enough : length pushes ≤ replies
   pub named : list_all (is_named octets) pushes ≡ true
   pub takes : TakesMemory (rebuilt message start len pushes octets limit)
 

@@ -41,7 +41,7 @@ fn hand_out_answer(
 /// Line 1 is the owner, line 2 the keys that the client understands, line 3 the protocols that the scheme has by
 /// itself, and each other line a record's data in hexadecimal.
 #[unsafe(no_mangle)]
-pub extern "C" fn svcb_choose(
+pub extern "C" fn hw_svcb_choose(
     alloc: Global,
     lines: &[u8],
     target: &mut [u8],
@@ -65,7 +65,7 @@ pub extern "C" fn svcb_choose(
 /// Whether the CDS and CDNSKEY records of an owner ask the parent zone for the same keys (RFC 7344, section 4). Line 1
 /// is the owner; each other line is `cds HEX` or `cdnskey HEX`.
 #[unsafe(no_mangle)]
-pub extern "C" fn cds_check(
+pub extern "C" fn hw_cds_check(
     alloc: Global,
     lines: &[u8],
     target: &mut [u8],
@@ -89,7 +89,7 @@ pub extern "C" fn cds_check(
 /// Whether a zone has the digest of its ZONEMD record (RFC 8976, section 4). Line 1 is the apex, line 2 the record's
 /// data in hexadecimal, and each other line a record of the zone in canonical order.
 #[unsafe(no_mangle)]
-pub extern "C" fn zonemd_check(
+pub extern "C" fn hw_zonemd_check(
     alloc: Global,
     lines: &[u8],
     target: &mut [u8],

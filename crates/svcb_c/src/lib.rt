@@ -8,9 +8,12 @@
 pub mod answers;
 mod buffers;
 mod faults;
+pub mod items;
 pub mod messages;
+pub mod names;
 pub mod record_orders;
 pub mod record_texts;
+mod record_types;
 pub mod records;
 pub mod status;
 pub mod status_texts;

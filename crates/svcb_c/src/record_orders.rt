@@ -1,13 +1,14 @@
 //! The order of record data of any type.
 
-ghost use Rattle.std.specs.Prelude.{◌≡◌, ◌≢◌, length};
+ghost use Rattle.std.specs.Prelude.{◌≡◌, ◌≢◌, length, false};
 ghost use Rattle.record_spec.specs.UnionReading.{union_read};
 ghost use Rattle.rdata_union.specs.Views.{data_of_all};
 ghost use Rattle.rdata_union.specs.WholeData.{part_of};
-ghost use Rattle.svcb_c.specs.Records.{IsRead, data_of_octets, data_order, compared_status, IsOrder, order_number};
+ghost use Rattle.svcb_c.specs.Records.{IsRead, has_unread_names, data_order, order_due, order_status, IsOrder, order_number};
 ghost use Rattle.svcb_c.specs.declared.status.TheConstants.{HW_OK, HW_E_MEMORY};
 
-use crate::status::{HW_E_FORM, HW_E_MEMORY, HW_E_SHORT, HW_OK};
+use crate::record_types::has_unread_names;
+use crate::status::{HW_E_FORM, HW_E_MEMORY, HW_E_SHORT, HW_E_TYPE, HW_OK};
 use crate::whole_data::read_data;
 use rdata_union::AllRecordData;
 use std::alloc::Global;
@@ -36,7 +37,7 @@ fn compare(found: &AllRecordData, other: &AllRecordData) -> u32
 /// 1 where they are the same, 2 where it stands behind.
 #[unsafe(no_mangle)]
 #[tactic(auto, using(crate::proofs::Whole::whole_is_read))]
-pub extern "C" fn rr_canonical_cmp(
+pub extern "C" fn hw_rr_canonical_cmp(
     alloc: Global,
     rtype: u16,
     first: &[u8],
@@ -44,15 +45,18 @@ pub extern "C" fn rr_canonical_cmp(
     order: &mut u32,
 ) -> u32
     ensures status { result ≢ HW_E_MEMORY
-        → result
-        ≡ compared_status (data_of_octets rtype first.now) (data_of_octets rtype second.now) }
+        → result ≡ order_status (order_due rtype first.now second.now) }
     ensures order { result ≡ HW_OK
-        → IsOrder (data_of_octets rtype first.now) (data_of_octets rtype second.now) order.new }
+        → IsOrder (order_due rtype first.now second.now) order.new }
     ensures kept { result ≢ HW_OK → order.new ≡ order.old }
-    // Memory is taken only where the first is data.
-    ensures memory { result ≡ HW_E_MEMORY
+    // Memory is taken only where the type is compared, and the first is data.
+    ensures memory_type { result ≡ HW_E_MEMORY → has_unread_names rtype ≡ false }
+    ensures memory_data { result ≡ HW_E_MEMORY
         → IsRead (union_read rtype (part_of first.now 0 (length first.now))) }
 {
+    if has_unread_names(rtype) {
+        return HW_E_TYPE;
+    }
     let found = match read_data(alloc, Rtype::from_int(rtype), first, 0, first.len()) {
         Ok(found) => found,
         Err(ParseError::ShortInput) => return HW_E_SHORT,

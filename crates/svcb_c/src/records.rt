@@ -77,3 +77,13 @@ pub struct HwRecord {
     /// The place in the message behind the record.
     pub next: usize,
 }
+
+/// An item of a parameter's value.
+#[repr(C)]
+#[derive(Clone, Copy)]
+pub struct HwItem {
+    /// The place in the value of the item's octets.
+    pub start: usize,
+    /// Their count.
+    pub len: usize,
+}

@@ -1,7 +1,9 @@
 //! The numbers that the calls answer. They are never given another meaning; new ones come behind.
 
+use text_spec::ScanError;
+
 /// The version of this library, as 10,000 times the first of its three numbers, 100 times the second, and the third.
-pub const HW_VERSION: u32 = 100;
+pub const HW_VERSION: u32 = 200;
 
 /// Done.
 pub const HW_OK: u32 = 0;
@@ -21,8 +23,10 @@ pub const HW_E_TOO_LONG: u32 = 6;
 pub const HW_E_ARGUMENT: u32 = 7;
 /// Memory is wanting.
 pub const HW_E_MEMORY: u32 = 8;
-/// There is no further parameter.
+/// There is no further parameter, item or address.
 pub const HW_END: u32 = 9;
+/// The type's data has names, which this library doesn't read yet.
+pub const HW_E_TYPE: u32 = 10;
 
 // The first fault of a text, in the order of `ScanError`.
 
@@ -88,3 +92,55 @@ pub const HW_S_MISSING_KEY: u32 = 92;
 pub const HW_S_UNKNOWN_TYPE: u32 = 93;
 /// Something is left behind the entry, or a token behind the data.
 pub const HW_S_TRAILING_TOKENS: u32 = 94;
+
+/// Proves the number of the version and of each status.
+pub(crate) fn prove_numbers() {
+    prove!(HW_VERSION == 200);
+    prove!(HW_OK == 0);
+    prove!(HW_E_PLACE == 1);
+    prove!(HW_E_SHORT == 2);
+    prove!(HW_E_FORM == 3);
+    prove!(HW_E_ROOM == 4);
+    prove!(HW_E_LIMIT == 5);
+    prove!(HW_E_TOO_LONG == 6);
+    prove!(HW_E_ARGUMENT == 7);
+    prove!(HW_E_MEMORY == 8);
+    prove!(HW_END == 9);
+    prove!(HW_E_TYPE == 10);
+    prove_fault_numbers();
+}
+
+/// Proves that the status of each fault of a text is 64 and its place in `ScanError`.
+fn prove_fault_numbers() {
+    prove!(HW_S_END_OF_ENTRY == 64 + ScanError::EndOfEntry as u32);
+    prove!(HW_S_BAD_SYMBOL == 64 + ScanError::BadSymbol as u32);
+    prove!(HW_S_BAD_ESCAPE == 64 + ScanError::BadEscape as u32);
+    prove!(HW_S_OPEN_QUOTE == 64 + ScanError::OpenQuote as u32);
+    prove!(HW_S_BAD_BRACKET == 64 + ScanError::BadBracket as u32);
+    prove!(HW_S_BAD_NUMBER == 64 + ScanError::BadNumber as u32);
+    prove!(HW_S_BAD_NAME == 64 + ScanError::BadName as u32);
+    prove!(HW_S_BAD_ADDRESS == 64 + ScanError::BadAddress as u32);
+    prove!(HW_S_BAD_BASE64 == 64 + ScanError::BadBase64 as u32);
+    prove!(HW_S_BAD_BASE16 == 64 + ScanError::BadBase16 as u32);
+    prove!(HW_S_EMPTY_PARAM == 64 + ScanError::EmptyParam as u32);
+    prove!(HW_S_BAD_KEY_CHAR == 64 + ScanError::BadKeyChar as u32);
+    prove!(HW_S_UNKNOWN_KEY == 64 + ScanError::UnknownKey as u32);
+    prove!(HW_S_MISSING_VALUE == 64 + ScanError::MissingValue as u32);
+    prove!(HW_S_UNEXPECTED_VALUE == 64 + ScanError::UnexpectedValue as u32);
+    prove!(HW_S_BAD_LIST_ESCAPE == 64 + ScanError::BadListEscape as u32);
+    prove!(HW_S_EMPTY_ITEM == 64 + ScanError::EmptyItem as u32);
+    prove!(HW_S_LONG_ITEM == 64 + ScanError::LongItem as u32);
+    prove!(HW_S_BAD_PORT == 64 + ScanError::BadPort as u32);
+    prove!(HW_S_KEY_ZERO_IN_MANDATORY == 64 + ScanError::KeyZeroInMandatory as u32);
+    prove!(HW_S_DUPLICATE_ITEM == 64 + ScanError::DuplicateItem as u32);
+    prove!(HW_S_DUPLICATE_KEY == 64 + ScanError::DuplicateKey as u32);
+    prove!(HW_S_MANDATORY_MISSING == 64 + ScanError::MandatoryMissing as u32);
+    prove!(HW_S_BAD_UTF8 == 64 + ScanError::BadUtf8 as u32);
+    prove!(HW_S_LONG_VALUE == 64 + ScanError::LongValue as u32);
+    prove!(HW_S_LONG_RECORD == 64 + ScanError::LongRecord as u32);
+    prove!(HW_S_WRONG_GATEWAY == 64 + ScanError::WrongGateway as u32);
+    prove!(HW_S_UNKNOWN_GATEWAY == 64 + ScanError::UnknownGateway as u32);
+    prove!(HW_S_MISSING_KEY == 64 + ScanError::MissingKey as u32);
+    prove!(HW_S_UNKNOWN_TYPE == 64 + ScanError::UnknownType as u32);
+    prove!(HW_S_TRAILING_TOKENS == 64 + ScanError::TrailingTokens as u32);
+}

@@ -1,12 +1,90 @@
 //! What the version is, and what statuses mean.
 
 ghost use Rattle.std.specs.Prelude.{◌≡◌, ◌≢◌, None, Some, MatchOption, length};
+ghost use Rattle.text_spec.specs.Faults.{scan_fault_text};
 ghost use Rattle.svcb_c.specs.Buffers.{due_status, IsGiven, NeedsRoom};
-ghost use Rattle.svcb_c.specs.Statuses.{status_text, told_status};
+ghost use Rattle.svcb_c.specs.Statuses.{status_text, told_status, told_fault};
 ghost use Rattle.svcb_c.specs.declared.status.TheConstants.{HW_OK, HW_E_ROOM, HW_VERSION};
 
 use crate::buffers::hand_out;
 use crate::status::*;
+use text_spec::ScanError;
+use wire_base::{LongRecordData, ParseError};
+
+/// The faults of a text, in the order of their statuses.
+const TEXT_FAULTS: [ScanError; 31] = [
+    ScanError::EndOfEntry,
+    ScanError::BadSymbol,
+    ScanError::BadEscape,
+    ScanError::OpenQuote,
+    ScanError::BadBracket,
+    ScanError::BadNumber,
+    ScanError::BadName,
+    ScanError::BadAddress,
+    ScanError::BadBase64,
+    ScanError::BadBase16,
+    ScanError::EmptyParam,
+    ScanError::BadKeyChar,
+    ScanError::UnknownKey,
+    ScanError::MissingValue,
+    ScanError::UnexpectedValue,
+    ScanError::BadListEscape,
+    ScanError::EmptyItem,
+    ScanError::LongItem,
+    ScanError::BadPort,
+    ScanError::KeyZeroInMandatory,
+    ScanError::DuplicateItem,
+    ScanError::DuplicateKey,
+    ScanError::MandatoryMissing,
+    ScanError::BadUtf8,
+    ScanError::LongValue,
+    ScanError::LongRecord,
+    ScanError::WrongGateway,
+    ScanError::UnknownGateway,
+    ScanError::MissingKey,
+    ScanError::UnknownType,
+    ScanError::TrailingTokens,
+];
+
+/// The text of a fault.
+fn fault_text(fault: ScanError) -> &'static str
+    ensures { result.now ≡ scan_fault_text fault }
+{
+    match fault {
+        ScanError::EndOfEntry => "end of entry",
+        ScanError::BadSymbol => "bad symbol",
+        ScanError::BadEscape => "bad escape",
+        ScanError::OpenQuote => "open quote",
+        ScanError::BadBracket => "bad bracket",
+        ScanError::BadNumber => "bad number",
+        ScanError::BadName => "bad name",
+        ScanError::BadAddress => "bad address",
+        ScanError::BadBase64 => "bad base64",
+        ScanError::BadBase16 => "bad base16",
+        ScanError::EmptyParam => "empty parameter",
+        ScanError::BadKeyChar => "bad key character",
+        ScanError::UnknownKey => "unknown key",
+        ScanError::MissingValue => "missing value",
+        ScanError::UnexpectedValue => "unexpected value",
+        ScanError::BadListEscape => "escape in list",
+        ScanError::EmptyItem => "empty item",
+        ScanError::LongItem => "long item",
+        ScanError::BadPort => "bad port",
+        ScanError::KeyZeroInMandatory => "mandatory in mandatory",
+        ScanError::DuplicateItem => "duplicate item",
+        ScanError::DuplicateKey => "duplicate key",
+        ScanError::MandatoryMissing => "mandatory key missing",
+        ScanError::BadUtf8 => "bad utf-8",
+        ScanError::LongValue => "long value",
+        ScanError::LongRecord => LongRecordData.as_str(),
+        ScanError::WrongGateway => "wrong gateway",
+        ScanError::UnknownGateway => "unknown gateway type",
+        ScanError::MissingKey => "missing key",
+        ScanError::UnknownType => "unknown type",
+        ScanError::TrailingTokens => "trailing tokens",
+        ScanError::NoMemory => ParseError::NoMemory.as_str(),
+    }
+}
 
 /// The version: 10,000 times its first number, 100 times the second, and the third.
 #[unsafe(no_mangle)]
@@ -16,55 +94,41 @@ pub extern "C" fn hw_version() -> u32
     HW_VERSION
 }
 
+/// The fault of a text that a status tells.
+fn told_fault(status: u32) -> Option<ScanError>
+    ensures { result ≡ told_fault status }
+{
+    if status < HW_S_END_OF_ENTRY {
+        return None;
+    }
+    TEXT_FAULTS
+        .get((status - HW_S_END_OF_ENTRY) as usize)
+        .copied()
+}
+
 /// A status in a few words. None where no call answers it.
 fn text_of(status: u32) -> Option<&'static str>
     ensures { MatchOption result
         (status_text status ≡ None)
         (λ text. status_text status ≡ Some text.now) }
 {
+    prove_numbers();
     match status {
         HW_OK => Some("done"),
         HW_E_PLACE => Some("place outside the message"),
-        HW_E_SHORT => Some("short input"),
-        HW_E_FORM => Some("form error"),
+        HW_E_SHORT => Some(ParseError::ShortInput.as_str()),
+        HW_E_FORM => Some(ParseError::Form.as_str()),
         HW_E_ROOM => Some("short buffer"),
         HW_E_LIMIT => Some("parameters over the limit"),
-        HW_E_TOO_LONG => Some("long record data"),
+        HW_E_TOO_LONG => Some(LongRecordData.as_str()),
         HW_E_ARGUMENT => Some("bad argument"),
-        HW_E_MEMORY => Some("want of memory"),
+        HW_E_MEMORY => Some(ParseError::NoMemory.as_str()),
         HW_END => Some("end of parameters"),
-        HW_S_END_OF_ENTRY => Some("end of entry"),
-        HW_S_BAD_SYMBOL => Some("bad symbol"),
-        HW_S_BAD_ESCAPE => Some("bad escape"),
-        HW_S_OPEN_QUOTE => Some("open quote"),
-        HW_S_BAD_BRACKET => Some("bad bracket"),
-        HW_S_BAD_NUMBER => Some("bad number"),
-        HW_S_BAD_NAME => Some("bad name"),
-        HW_S_BAD_ADDRESS => Some("bad address"),
-        HW_S_BAD_BASE64 => Some("bad base64"),
-        HW_S_BAD_BASE16 => Some("bad base16"),
-        HW_S_EMPTY_PARAM => Some("empty parameter"),
-        HW_S_BAD_KEY_CHAR => Some("bad key character"),
-        HW_S_UNKNOWN_KEY => Some("unknown key"),
-        HW_S_MISSING_VALUE => Some("missing value"),
-        HW_S_UNEXPECTED_VALUE => Some("unexpected value"),
-        HW_S_BAD_LIST_ESCAPE => Some("escape in list"),
-        HW_S_EMPTY_ITEM => Some("empty item"),
-        HW_S_LONG_ITEM => Some("long item"),
-        HW_S_BAD_PORT => Some("bad port"),
-        HW_S_KEY_ZERO_IN_MANDATORY => Some("mandatory in mandatory"),
-        HW_S_DUPLICATE_ITEM => Some("duplicate item"),
-        HW_S_DUPLICATE_KEY => Some("duplicate key"),
-        HW_S_MANDATORY_MISSING => Some("mandatory key missing"),
-        HW_S_BAD_UTF8 => Some("bad utf-8"),
-        HW_S_LONG_VALUE => Some("long value"),
-        HW_S_LONG_RECORD => Some("long record data"),
-        HW_S_WRONG_GATEWAY => Some("wrong gateway"),
-        HW_S_UNKNOWN_GATEWAY => Some("unknown gateway type"),
-        HW_S_MISSING_KEY => Some("missing key"),
-        HW_S_UNKNOWN_TYPE => Some("unknown type"),
-        HW_S_TRAILING_TOKENS => Some("trailing tokens"),
-        _ => None,
+        HW_E_TYPE => Some("type with names that are not read"),
+        _ => match told_fault(status) {
+            Some(fault) => Some(fault_text(fault)),
+            None => None,
+        },
     }
 }
 

@@ -83,7 +83,7 @@ fn count(params: &SvcParamsRef<'_>) -> u32
 /// Reads the data of an SVCB or HTTPS record in the `len` octets from `start` on: its priority, its target uncompressed
 /// in the caller's buffer, the count of its parameters, and where they begin. No memory is taken.
 #[unsafe(no_mangle)]
-pub extern "C" fn svcb_read(
+pub extern "C" fn hw_svcb_read(
     message: &[u8],
     start: usize,
     len: usize,
@@ -120,14 +120,14 @@ pub extern "C" fn svcb_read(
 }
 
 /// The parameter at a place, where the record data ends at `end`. The first parameter stands at `params_start` of
-/// [`svcb_read`], each other behind the value of the one before it. No memory is taken.
+/// [`hw_svcb_read`], each other behind the value of the one before it. No memory is taken.
 #[unsafe(no_mangle)]
 #[tactic(auto, using(crate::proofs::Next::next_rules))]
-pub extern "C" fn svcb_next(message: &[u8], end: usize, pos: usize, param: &mut SvcbParam) -> u32
+pub extern "C" fn hw_svcb_next(message: &[u8], end: usize, pos: usize, param: &mut SvcbParam) -> u32
     ensures status { result ≡ next_status message.now end pos }
     ensures param { result ≡ HW_OK → IsParamAt message.now pos param.new }
     ensures kept { result ≢ HW_OK → param.new ≡ param.old }
-    // From where `svcb_read` begins, the calls go over the pairs that it read.
+    // From where `hw_svcb_read` begins, the calls go over the pairs that it read.
     ensures next { (last : Option ℕ) → (pairs : Pairs) → end ≤ length message.now → pos ≤ end
         → pairs_at message.now end pos last ≡ Ok pairs
         → IsNext pairs message.now end result param.new }

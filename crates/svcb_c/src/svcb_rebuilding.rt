@@ -162,7 +162,7 @@ fn put_replies(buffer: &mut [u8], replies: &[Reply])
 /// there already, 2 over the limit. A push that is refused changes nothing.
 #[unsafe(no_mangle)]
 #[tactic(auto, using(std::proofs::lemmas::Bool::Decides::nat_tests), unfolding(svcb_spec::specs::Rebuilding::rebuild))]
-pub extern "C" fn svcb_rebuild(
+pub extern "C" fn hw_svcb_rebuild(
     alloc: Global,
     message: &[u8],
     start: usize,
@@ -189,7 +189,8 @@ pub extern "C" fn svcb_rebuild(
     ensures kept_target { result ≢ HW_OK → target.new ≡ target.old }
     ensures kept_replies { result ≢ HW_OK → replies.new ≡ replies.old }
     ensures memory { result ≡ HW_E_MEMORY
-        → MayWantMemory message.now start len pushes.now octets.now limit }
+        → MayWantMemory message.now start len pushes.now octets.now limit
+        (length replies.old) }
 {
     if !is_within(message, start, len) {
         return HW_E_PLACE;

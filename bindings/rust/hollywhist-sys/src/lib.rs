@@ -23,8 +23,10 @@ pub const HW_E_TOO_LONG: u32 = 6;
 pub const HW_E_ARGUMENT: u32 = 7;
 /// Memory is wanting.
 pub const HW_E_MEMORY: u32 = 8;
-/// There is no further parameter.
+/// There is no further parameter, and no further item of a value.
 pub const HW_END: u32 = 9;
+/// The type's data has names, which the library doesn't read yet.
+pub const HW_E_TYPE: u32 = 10;
 /// A token was asked for, and none was left.
 pub const HW_S_END_OF_ENTRY: u32 = 64;
 /// An octet that no text may have at its place.
@@ -136,6 +138,14 @@ pub struct svcb_param {
 /// A parameter that is to be added; `start` counts in the octets of all values.
 pub type svcb_push = svcb_param;
 
+/// An item in the value of a parameter: its octets are the `len` octets from `start` on.
+#[repr(C)]
+#[derive(Clone, Copy, Debug, Default, PartialEq, Eq)]
+pub struct hw_item {
+    pub start: usize,
+    pub len: usize,
+}
+
 extern "C" {
     pub fn hw_version() -> u32;
 
@@ -157,7 +167,7 @@ extern "C" {
         record: *mut hw_record,
     ) -> u32;
 
-    pub fn rr_text(
+    pub fn hw_rr_text(
         rtype: u16,
         message: *const u8,
         message_len: usize,
@@ -168,7 +178,7 @@ extern "C" {
         written: *mut usize,
     ) -> u32;
 
-    pub fn rr_scan(
+    pub fn hw_rr_scan(
         rtype: u16,
         text: *const u8,
         text_len: usize,
@@ -177,7 +187,7 @@ extern "C" {
         written: *mut usize,
     ) -> u32;
 
-    pub fn rr_canonical_cmp(
+    pub fn hw_rr_canonical_cmp(
         rtype: u16,
         first: *const u8,
         first_len: usize,
@@ -186,7 +196,7 @@ extern "C" {
         order: *mut u32,
     ) -> u32;
 
-    pub fn svcb_read(
+    pub fn hw_svcb_read(
         message: *const u8,
         message_len: usize,
         start: usize,
@@ -196,7 +206,7 @@ extern "C" {
         record: *mut svcb_record,
     ) -> u32;
 
-    pub fn svcb_next(
+    pub fn hw_svcb_next(
         message: *const u8,
         message_len: usize,
         end: usize,
@@ -204,7 +214,7 @@ extern "C" {
         param: *mut svcb_param,
     ) -> u32;
 
-    pub fn svcb_rebuild(
+    pub fn hw_svcb_rebuild(
         message: *const u8,
         message_len: usize,
         start: usize,
@@ -221,7 +231,47 @@ extern "C" {
         written: *mut usize,
     ) -> u32;
 
-    pub fn svcb_choose(
+    pub fn hw_param_port(value: *const u8, value_len: usize, port: *mut u16) -> u32;
+
+    pub fn hw_param_number_next(
+        value: *const u8,
+        value_len: usize,
+        pos: usize,
+        number: *mut u16,
+    ) -> u32;
+
+    pub fn hw_param_address_next(
+        value: *const u8,
+        value_len: usize,
+        len: usize,
+        pos: usize,
+        item: *mut hw_item,
+    ) -> u32;
+
+    pub fn hw_param_alpn_next(
+        value: *const u8,
+        value_len: usize,
+        pos: usize,
+        item: *mut hw_item,
+    ) -> u32;
+
+    pub fn hw_name_text(
+        octets: *const u8,
+        octets_len: usize,
+        target: *mut u8,
+        target_room: usize,
+        written: *mut usize,
+    ) -> u32;
+
+    pub fn hw_name_scan(
+        text: *const u8,
+        text_len: usize,
+        target: *mut u8,
+        target_room: usize,
+        written: *mut usize,
+    ) -> u32;
+
+    pub fn hw_svcb_choose(
         lines: *const u8,
         lines_len: usize,
         target: *mut u8,
@@ -230,7 +280,7 @@ extern "C" {
         outcome: *mut u32,
     ) -> u32;
 
-    pub fn cds_check(
+    pub fn hw_cds_check(
         lines: *const u8,
         lines_len: usize,
         target: *mut u8,
@@ -239,7 +289,7 @@ extern "C" {
         outcome: *mut u32,
     ) -> u32;
 
-    pub fn zonemd_check(
+    pub fn hw_zonemd_check(
         lines: *const u8,
         lines_len: usize,
         target: *mut u8,
@@ -254,3 +304,4 @@ const _: () = assert!(size_of::<hw_message>() == 24);
 const _: () = assert!(size_of::<hw_record>() == 40);
 const _: () = assert!(size_of::<svcb_record>() == 16);
 const _: () = assert!(size_of::<svcb_param>() == 16);
+const _: () = assert!(size_of::<hw_item>() == 16);

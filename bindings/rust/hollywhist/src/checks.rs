@@ -54,15 +54,15 @@ fn answer(check: Check, lines: &[u8]) -> Result<String, CheckError> {
 /// The endpoints that a client chooses for an owner from its SVCB or HTTPS records (RFC 9460, sections 2.4 and 2.5), a
 /// line each.
 pub fn choose(lines: &[u8]) -> Result<String, CheckError> {
-    answer(sys::svcb_choose, lines)
+    answer(sys::hw_svcb_choose, lines)
 }
 
 /// Whether the CDS and CDNSKEY records of an owner ask the parent zone for the same keys (RFC 7344, section 4).
 pub fn check_cds(lines: &[u8]) -> Result<String, CheckError> {
-    answer(sys::cds_check, lines)
+    answer(sys::hw_cds_check, lines)
 }
 
 /// Whether a zone has the digest of its ZONEMD record (RFC 8976, section 4).
 pub fn check_zonemd(lines: &[u8]) -> Result<String, CheckError> {
-    answer(sys::zonemd_check, lines)
+    answer(sys::hw_zonemd_check, lines)
 }

@@ -21,6 +21,8 @@ pub enum Error {
     Argument,
     /// Memory is wanting.
     Memory,
+    /// The type's data has names, which the library doesn't read yet.
+    Type,
     /// The first fault of a text.
     Scan(ScanFault),
     /// A status that this version doesn't know.
@@ -183,6 +185,7 @@ impl Error {
             Error::TooLong => sys::HW_E_TOO_LONG,
             Error::Argument => sys::HW_E_ARGUMENT,
             Error::Memory => sys::HW_E_MEMORY,
+            Error::Type => sys::HW_E_TYPE,
             Error::Scan(fault) => fault.status(),
             Error::Other(status) => status,
         }
@@ -200,6 +203,7 @@ pub(crate) fn checked(status: u32) -> Result<(), Error> {
         sys::HW_E_TOO_LONG => Error::TooLong,
         sys::HW_E_ARGUMENT => Error::Argument,
         sys::HW_E_MEMORY => Error::Memory,
+        sys::HW_E_TYPE => Error::Type,
         _ => ScanFault::of_status(status).map_or(Error::Other(status), Error::Scan),
     })
 }

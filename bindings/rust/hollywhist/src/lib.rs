@@ -23,12 +23,15 @@ mod calls;
 mod checks;
 mod error;
 mod message;
+mod name;
 mod record;
 mod service;
+pub mod values;
 
 pub use checks::{check_cds, check_zonemd, choose, CheckError};
 pub use error::{Error, ScanFault};
 pub use message::{Header, Message, Record, Records};
+pub use name::Name;
 pub use record::{canonical_cmp, scan, scan_octets, text, RecordData};
 pub use service::{Https, Param, Params, Push, Reply, ServiceData, Svcb};
 

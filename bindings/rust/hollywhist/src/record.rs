@@ -13,7 +13,7 @@ use hollywhist_sys as sys;
 pub fn text(rtype: u16, message: &[u8], start: usize, len: usize) -> Result<String, Error> {
     // A slice is good for its length, and the buffers that are written are of this call alone.
     let octets = written(|target, count| unsafe {
-        sys::rr_text(
+        sys::hw_rr_text(
             rtype,
             message.as_ptr(),
             message.len(),
@@ -36,7 +36,7 @@ pub fn scan(rtype: u16, text: &str) -> Result<Vec<u8>, Error> {
 pub fn scan_octets(rtype: u16, text: &[u8]) -> Result<Vec<u8>, Error> {
     // As in `text`.
     written(|target, count| unsafe {
-        sys::rr_scan(
+        sys::hw_rr_scan(
             rtype,
             text.as_ptr(),
             text.len(),
@@ -52,7 +52,7 @@ pub fn canonical_cmp(rtype: u16, first: &[u8], second: &[u8]) -> Result<Ordering
     let mut order = 1;
     // As in `text`.
     checked(unsafe {
-        sys::rr_canonical_cmp(
+        sys::hw_rr_canonical_cmp(
             rtype,
             first.as_ptr(),
             first.len(),

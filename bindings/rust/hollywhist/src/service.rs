@@ -72,7 +72,7 @@ impl<const RTYPE: u16> ServiceData<RTYPE> {
         let mut target = [0; MAX_NAME];
         // A slice is good for its length, and what is written is of this call alone.
         checked(unsafe {
-            sys::svcb_read(
+            sys::hw_svcb_read(
                 message.as_ptr(),
                 message.len(),
                 start,
@@ -150,7 +150,7 @@ impl<const RTYPE: u16> ServiceData<RTYPE> {
         let mut replies = vec![0; pushes.len()];
         // As in `from_message`.
         let octets = written(|target, count| unsafe {
-            sys::svcb_rebuild(
+            sys::hw_svcb_rebuild(
                 self.octets.as_ptr(),
                 self.octets.len(),
                 0,
@@ -236,7 +236,7 @@ impl<'a> Iterator for Params<'a> {
         let mut param = sys::svcb_param::default();
         // As in `ServiceData::from_message`.
         let status = unsafe {
-            sys::svcb_next(
+            sys::hw_svcb_next(
                 self.octets.as_ptr(),
                 self.octets.len(),
                 self.octets.len(),

@@ -1,8 +1,8 @@
 //! The crate against values that were worked by hand from RFC 9460, RFC 1035 and RFC 4034.
 
 use hollywhist::{
-    canonical_cmp, check_cds, check_zonemd, choose, scan, text, CheckError, Error, Https, Message,
-    Push, RecordData, Reply, ScanFault, Svcb,
+    canonical_cmp, check_cds, check_zonemd, choose, scan, text, values, CheckError, Error, Https,
+    Message, Name, Push, RecordData, Reply, ScanFault, Svcb,
 };
 use std::cmp::Ordering;
 
@@ -119,6 +119,40 @@ fn messages_give_their_records() {
         cut.records().collect::<Vec<_>>().as_slice(),
         [Err(Error::Short)]
     ));
+}
+
+/// RFC 9460, section 7: a port, protocols behind their lengths, addresses, keys.
+#[test]
+fn values_are_read_by_their_types() {
+    assert_eq!(values::port(b"\x00\x35"), Ok(53));
+    assert_eq!(values::port(b"\x00"), Err(Error::Short));
+    assert_eq!(values::port(b"\x00\x35\x00"), Err(Error::Form));
+    let protocols: Vec<&[u8]> = vec![b"h2", b"h3"];
+    assert_eq!(values::alpn(b"\x02h2\x02h3"), Ok(protocols));
+    assert_eq!(values::alpn(b"\x02h"), Err(Error::Short));
+    assert_eq!(values::numbers(b"\x00\x01\x00\x04"), Ok(vec![1, 4]));
+    assert_eq!(
+        values::addresses::<4>(&[192, 0, 2, 1]),
+        Ok(vec![[192, 0, 2, 1]])
+    );
+    assert_eq!(values::addresses::<16>(&[192, 0, 2, 1]), Err(Error::Form));
+}
+
+/// RFC 1035, section 5.1: a dot within a label is escaped. RFC 4343: case doesn't matter.
+#[test]
+fn names_are_texts_and_octets() {
+    let name: Name = "a\\.b.c".parse().unwrap();
+    assert_eq!(name.as_octets(), b"\x03a.b\x01c\x00");
+    assert_eq!(name.to_string(), "a\\.b.c.");
+    assert_eq!(name, Name::from_wire(b"\x03A.B\x01C\x00").unwrap());
+    assert_eq!("a..b".parse::<Name>(), Err(Error::Scan(ScanFault::BadName)));
+    assert_eq!(Name::from_wire(b"\x01a"), Err(Error::Short));
+}
+
+/// Names of MX are compressed, and compared in lower case.
+#[test]
+fn types_with_names_are_refused() {
+    assert_eq!(text(15, b"\x00\x01\x00", 0, 3), Err(Error::Type));
 }
 
 /// The examples of the repository: keys and digests of BIND and ldns, and the zone of RFC 8976, appendix A.1.

@@ -1,7 +1,7 @@
 use Rattle.std.proofs.Common.{arith}
 use Rattle.std.proofs.lemmas.Bool.Decides.{nat_tests}
 use Rattle.svcb_c.proofs.Next.{next_within, next_pair}
-use Rattle.svcb_c.proofs.svcb_reading.svcb_next.Goals as goal
+use Rattle.svcb_c.proofs.svcb_reading.hw_svcb_next.Goals as goal
 
 pub returns-then-end-pos-lt4-clause-next : goal.returns-then-end-pos-lt4-clause-next
 returns-then-end-pos-lt4-clause-next c last pairs in_message here read =
