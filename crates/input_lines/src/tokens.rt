@@ -5,7 +5,7 @@ ghost use Rattle.input_lines.specs.Tokens.{lone_token, lone_name, ReadsAs};
 
 use crate::faults::{InputFault, SpellError};
 use crate::lines::Lines;
-use dns_text::{Entry, EntryScanner, Scanner};
+use dns_text::{EntryScanner, Scanner, name_from_text};
 use std::alloc::Global;
 use text_spec::ScanError;
 use wire_base::{Name, Octets};
@@ -14,21 +14,10 @@ use wire_base::{Name, Octets};
 pub fn lone_token(alloc: Global, line: &[u8]) -> Result<Octets, ScanError>
     ensures { ReadsAs (λ octets. octets) result (lone_token line.now) }
 {
-    let mut scanner = EntryScanner::new(Entry::from_text(line)?);
+    let mut scanner = EntryScanner::from_text(line)?;
     let octets = scanner.scan_octets(alloc)?;
     scanner.check_end()?;
     Ok(octets)
-}
-
-/// The name that the token of a line spells, where the line is an entry with exactly one. Any error but `NoMemory` says
-/// that there is none.
-pub fn lone_name(alloc: Global, line: &[u8]) -> Result<Name, ScanError>
-    ensures { ReadsAs (λ name. name) result (lone_name line.now) }
-{
-    let mut scanner = EntryScanner::new(Entry::from_text(line)?);
-    let name = scanner.scan_name(alloc)?;
-    scanner.check_end()?;
-    Ok(name)
 }
 
 /// Reads the next line, which has this number, as a name. `Fault` says that it is missing or bad.
@@ -38,7 +27,7 @@ pub fn name_line(alloc: Global, input: &mut Lines<'_>, number: u64) -> Result<Na
     ensures rest { input.new ≡ drop 1 input.old }
 {
     let line = input.next().ok_or(InputFault::BadLine(number))?;
-    match lone_name(alloc, line) {
+    match name_from_text(alloc, line) {
         Ok(name) => Ok(name),
         Err(ScanError::NoMemory) => Err(SpellError::NoMemory),
         Err(_) => Err(SpellError::Fault(InputFault::BadLine(number))),
