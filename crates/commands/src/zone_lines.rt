@@ -4,7 +4,7 @@ ghost use Rattle.text_spec.specs.Scanning.{Answers, Scans};
 ghost use Rattle.input_lines.specs.Tokens.{entry_scanned};
 ghost use Rattle.commands.specs.ZoneLines.{data_token, zone_record, record_line};
 
-use dns_text::{Entry, EntryScanner, Scanner};
+use dns_text::{EntryScanner, Scanner};
 use std::alloc::Global;
 use text_spec::{ScanError, decode_base16};
 use wire_base::{NoMemory, Octets, Rtype};
@@ -46,7 +46,7 @@ fn zone_record<S: Scanner>(alloc: Global, scanner: &mut S) -> Result<ZoneRecord,
 fn scan_line(alloc: Global, line: &[u8]) -> Result<ZoneRecord, ScanError>
     ensures { Answers (λ found. found) result (entry_scanned zone_record line.now) }
 {
-    let mut scanner = EntryScanner::new(Entry::from_text(line)?);
+    let mut scanner = EntryScanner::from_text(line)?;
     zone_record(alloc, &mut scanner)
 }
 

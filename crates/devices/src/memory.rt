@@ -3,7 +3,7 @@ ghost use Rattle.std.specs.Prelude.{◌≡◌, ℕ, ◌+◌, ◌-◌, ◌<◌, �
 ghost use Rattle.std.specs.Io.{ReadsAtMost, WritesAtMost};
 ghost use Rattle.std.specs.Io.KnownBytes.{ReadConsumes, WriteAppends};
 ghost use Rattle.devices.specs.Counters.{one_more};
-ghost use Rattle.devices.specs.EmptyCalls.{CountsEmpty};
+ghost use Rattle.devices.specs.EmptyCalls.{CountsEmpty, CountsEachEmpty};
 ghost use Rattle.devices.specs.Faults.{HasCause};
 ghost use Rattle.devices.specs.Memory.{MemoryFeed, MemoryStore, ReadFails, WriteFails};
 
@@ -82,6 +82,7 @@ impl Source for MemorySource<'_> {
         ensures gives { IfOk result (λ count.
             count ≡ min (min (length buf.new) self.old.piece) (length self.old.left)) }
         ensures counts { OnErr result (self.new.faults ≡ one_more self.old.faults) }
+        ensures each_empty { CountsEachEmpty self.old.empty_reads self.new.empty_reads result }
         ensures calls { self.new.calls ≡ one_more self.old.calls }
         ensures piece { self.new.piece ≡ self.old.piece }
         ensures failing { self.new.failing ≡ self.old.failing }
@@ -187,6 +188,7 @@ impl Sink for MemorySink<'_> {
         ensures places { length self.new.held + self.new.places
             ≡ length self.old.held + self.old.places }
         ensures counts { OnErr result (self.new.faults ≡ one_more self.old.faults) }
+        ensures each_empty { CountsEachEmpty self.old.empty_writes self.new.empty_writes result }
         ensures calls { self.new.calls ≡ one_more self.old.calls }
         ensures piece { self.new.piece ≡ self.old.piece }
         ensures failing { self.new.failing ≡ self.old.failing }

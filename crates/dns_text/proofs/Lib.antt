@@ -5,3 +5,4 @@ pub mod Nesting
 pub mod NextTokens
 pub mod Rests
 mod PlainOctets
+pub mod EntryFaults

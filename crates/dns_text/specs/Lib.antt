@@ -3,3 +3,4 @@ pub mod Parts
 pub mod PlainOctets
 pub mod Reading
 pub mod Writing
+pub mod NameInText

@@ -1,8 +1,8 @@
 //! The scanner of one entry.
 
-ghost use Rattle.std.specs.Prelude.{◌≡◌, ◌≤◌, ◌<◌, ◌+◌, ◌==◌, ◌&&◌, [], Ok, Some, None, length, drop, IfOk, IfErr, OnOk, OnErr};
+ghost use Rattle.std.specs.Prelude.{◌≡◌, ◌≢◌, ◌≤◌, ◌<◌, ◌+◌, ◌==◌, ◌&&◌, [], Ok, Some, None, length, drop, IfOk, IfErr, OnOk, OnErr, MatchResult};
 ghost use Rattle.text_spec.specs.Pieces.{token_groups};
-ghost use Rattle.text_spec.specs.Tokens.{tokens_in};
+ghost use Rattle.text_spec.specs.Tokens.{text_fault, tokens_in};
 ghost use Rattle.text_spec.specs.Scanning.{Answers, next_token, any_octets};
 ghost use Rattle.dns_text.specs.Reading.{IsBehindNext};
 
@@ -67,6 +67,19 @@ impl<'t> EntryScanner<'t> {
             has_next,
             taken: 0,
         }
+    }
+
+    /// A scanner of the tokens of a text that is one entry, of which none is taken. It allocates nothing.
+    ///
+    /// A refusal is the first fault of the text, as [`Entry::from_text`] tells it, and never `NoMemory`.
+    pub fn from_text(text: &'t [u8]) -> Result<EntryScanner<'t>, ScanError>
+        ensures answer { MatchResult result
+            (λ scanner. scanner ≡ record { tokens = tokens_in text.now; taken = 0 })
+            (λ fault. text_fault text.now ≡ Some fault) }
+        ensures sound { OnOk result (text_fault text.now ≡ None) }
+        ensures memory { IfErr result (λ fault. fault ≢ ScanError.NoMemory) }
+    {
+        Ok(EntryScanner::new(Entry::from_text(text)?))
     }
 
     // The lexemes from the next token on.

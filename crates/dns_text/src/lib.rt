@@ -17,5 +17,6 @@ pub use data::{scan_a, scan_aaaa, scan_unknown};
 pub use entry::Entry;
 pub use entry_scanner::EntryScanner;
 pub use formatter::Formatter;
+pub use names::name_from_text;
 pub use scanner::Scanner;
 pub use zonefile::{ZonefileFmt, display_zonefile};

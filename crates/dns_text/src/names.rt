@@ -1,11 +1,15 @@
 //! Names in text (RFC 1035, section 5.1).
 
-ghost use Rattle.std.specs.Prelude.{◌≡◌, ◌<◌, ◌≤◌, ◌++◌, ◌∷◌, length, drop, OnOk, IfErr};
+ghost use Rattle.std.specs.Prelude.{◌≡◌, ◌<◌, ◌≤◌, ◌++◌, ◌∷◌, length, drop, None, OnOk, IfErr, IsErrOf};
 ghost use Rattle.text_spec.specs.NameTexts.{is_bare_octet, is_lone};
 ghost use Rattle.text_spec.specs.Scanning.{Answers, octets_of};
 ghost use Rattle.dns_text.specs.Labels.{label_len, wire_of};
 ghost use Rattle.text_spec.specs.Rows.{by_name};
+ghost use Rattle.text_spec.specs.Tokens.{text_fault};
+ghost use Rattle.dns_text.specs.NameInText.{name_in_text};
 
+use crate::entry_scanner::EntryScanner;
+use crate::scanner::Scanner;
 use std::alloc::Global;
 use text_spec::{ScanError, Symbol};
 use wire_base::{Name, Octets};
@@ -16,6 +20,22 @@ const MAX_LABEL_LEN: usize = 63;
 /// The most octets of a name's labels with their lengths, without the root (RFC 1035, section 2.3.4). A name text has
 /// no more symbols than that: each stands for an octet of a label or, as a dot, for a label's length.
 const MAX_LABEL_OCTETS: usize = 254;
+
+/// The name that a text spells: the text of an entry with one token, as [`Entry`](crate::Entry) has it. A final dot may
+/// be left out (RFC 1035, section 5.1, where every name is taken as absolute).
+///
+/// A fault of the text comes first, as [`Entry::from_text`](crate::Entry::from_text) tells it. Then `EndOfEntry`: it has
+/// no token. `BadName`: the first token is no name text, as [`Scanner::scan_name`] reads it. `TrailingTokens`: another
+/// token stands behind it. `NoMemory`: an allocation failed, which the text of an entry alone asks for.
+pub fn name_from_text(alloc: Global, text: &[u8]) -> Result<Name, ScanError>
+    ensures answer { Answers (λ name. name) result (name_in_text text.now) }
+    ensures memory { IsErrOf result ScanError.NoMemory → text_fault text.now ≡ None }
+{
+    let mut scanner = EntryScanner::from_text(text)?;
+    let name = scanner.scan_name(alloc)?;
+    scanner.check_end()?;
+    Ok(name)
+}
 
 /// The name that a token spells.
 ///

@@ -1,6 +1,5 @@
 pub mod Complete
 pub mod ReadData
-pub mod ReadWhole
 pub mod Back
 pub mod GenLemmas
 pub mod GenDone

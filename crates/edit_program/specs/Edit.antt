@@ -1,7 +1,9 @@
 -- What answers `edit`.
-use Rattle.std.specs.Prelude.{ℕ, List, ◌++◌, Result, Ok, Err, codes}
+use Rattle.std.specs.Prelude.{ℕ, List, ◌++◌, Result, Ok, Err}
 use Rattle.hex.specs.Hex.{encode_lower}
 use Rattle.svcb_spec.specs.Rebuilding.{Rebuilt, Refusal, Unread, OverLimit, TooLong, rebuild}
+use Rattle.svcb_rdata.specs.RebuildErrors.{rebuild_error_text}
+use Rattle.svcb_rdata.specs.declared.errors.RebuildError.TheVariants as errors
 use Rattle.input_lines.specs.ExitCodes.{exit_code}
 use Rattle.input_lines.specs.Faults.{due_of_fault}
 use Rattle.input_lines.specs.Report.{Answer, line, not_done}
@@ -14,8 +16,8 @@ use Rattle.edit_program.specs.EditInput.{Spelled, edit_input_of}
 -- what a report says of a refusal
 abbrev pub refusal_text : Refusal → List ℕ
 refusal_text (Unread fault) = data_fault_text fault
-refusal_text OverLimit = codes "short buffer"
-refusal_text TooLong = codes "long record data"
+refusal_text OverLimit = rebuild_error_text errors.ShortBuf
+refusal_text TooLong = rebuild_error_text errors.LongRecordData
 
 -- to a well-formed input: why nothing is rebuilt, or what is reported of the data
 abbrev pub report_of : (Rebuilt → Answer) → Result Rebuilt Refusal → Answer

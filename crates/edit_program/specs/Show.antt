@@ -3,9 +3,8 @@ use Rattle.std.specs.Prelude.{ℕ, Option, Some, None, Result, Ok, Err, List, �
 use Rattle.name_spec.specs.Octets.{Fault}
 use Rattle.wire_base.specs.Input.{Input}
 use Rattle.record_spec.specs.RecordData.{RecordData}
-use Rattle.record_spec.specs.UnionReading.{union_read}
 use Rattle.record_spec.specs.UnionTexts.{union_printed}
-use Rattle.rdata_union.specs.WholeData.{whole_data}
+use Rattle.rdata_union.specs.WholeData.{data_left}
 use Rattle.input_lines.specs.Faults.{due_of_fault}
 use Rattle.input_lines.specs.Hexadecimal.{hexadecimal_octets}
 use Rattle.input_lines.specs.Lines.{lines}
@@ -36,7 +35,7 @@ whole_message octets = record { message = octets; end = length octets; pos = 0 }
 
 -- the data that all these octets are under a type number, or their first fault
 abbrev pub data_in : ℕ → List ℕ → Result RecordData Fault
-data_in rtype octets = whole_data (length octets) (union_read rtype (whole_message octets))
+data_in rtype octets = data_left rtype (whole_message octets)
 
 -- to octets that are read as data: its text
 abbrev pub data_shown : Result RecordData Fault → Answer

@@ -11,7 +11,7 @@ ghost use Rattle.input_lines.specs.ReportView.{answer_view};
 use crate::report::done_report;
 use crate::edit_input::{EditInput, read_edit_input};
 use input_lines::faults::SpellError;
-use input_lines::report::{Answer, Outcome, refused_answer, text_answer};
+use input_lines::report::{Answer, Outcome, refused_answer};
 use devices::MAX_INPUT;
 use std::alloc::Global;
 use svcb_rdata::{RebuildError, rebuild_svcb};
@@ -23,14 +23,13 @@ pub fn refusal_answer(alloc: Global, error: RebuildError) -> Result<Answer, NoMe
         → IsRefusal error given
         → IfOk result (λ answer. answer_view answer ≡ report_of whole given) }
 {
-    let text = match error {
-        RebuildError::Parse(ParseError::ShortInput) => "error: short input\n",
-        RebuildError::Parse(ParseError::Form) => "error: form error\n",
-        RebuildError::ShortBuf => "error: short buffer\n",
-        RebuildError::LongRecordData => "error: long record data\n",
-        RebuildError::NoMemory | RebuildError::Parse(ParseError::NoMemory) => return Err(NoMemory),
-    };
-    text_answer(alloc, Outcome::NotDone, text)
+    match error {
+        RebuildError::NoMemory | RebuildError::Parse(ParseError::NoMemory) => Err(NoMemory),
+        _ => Ok(Answer {
+            outcome: Outcome::NotDone,
+            report: format!(in alloc; "error: {error}\n")?,
+        }),
+    }
 }
 
 /// The answer to a well-formed input.

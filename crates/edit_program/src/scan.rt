@@ -8,7 +8,7 @@ ghost use Rattle.input_lines.specs.Tokens.{entry_scanned};
 ghost use Rattle.edit_program.specs.Scan.{due_of_scan};
 
 use input_lines::report::{Answer, Outcome, octets_answer};
-use dns_text::{Entry, EntryScanner};
+use dns_text::EntryScanner;
 use rdata_union::ZoneRecordData;
 use std::alloc::Global;
 use text_spec::ScanError;
@@ -18,7 +18,7 @@ use wire_base::{ComposeRecordData, NoMemory, Rtype};
 fn scan_data(alloc: Global, rtype: Rtype, text: &[u8]) -> Result<ZoneRecordData, ScanError>
     ensures { Answers data_of_zone result (entry_scanned (union_scan rtype) text.now) }
 {
-    let mut scanner = EntryScanner::new(Entry::from_text(text)?);
+    let mut scanner = EntryScanner::from_text(text)?;
     ZoneRecordData::scan(alloc, rtype, &mut scanner)
 }
 
@@ -27,9 +27,9 @@ pub fn scan_answer(alloc: Global, rtype: Rtype, input: &[u8]) -> Result<Answer, 
     ensures { IfOk result (λ answer. answer_view answer ≡ due_of_scan rtype input.now) }
 {
     match scan_data(alloc, rtype, input) {
-        Ok(found) => {
+        Ok(data) => {
             let mut octets = Vec::new(alloc);
-            found.compose_rdata(&mut octets)?;
+            data.compose_rdata(&mut octets)?;
             octets_answer(alloc, &octets)
         }
         Err(ScanError::NoMemory) => Err(NoMemory),

@@ -5,7 +5,7 @@ ghost use Rattle.edit_program.specs.Show.{data_in, data_shown, due_of_show};
 
 use crate::edit_input::read_octets;
 use input_lines::faults::SpellError;
-use input_lines::report::{Answer, Outcome, refused_answer, text_answer};
+use input_lines::report::{Answer, Outcome, refused_answer};
 use rdata_union::AllRecordData;
 use std::alloc::Global;
 use wire_base::{NoMemory, ParseError, Parser, Rtype};
@@ -15,21 +15,16 @@ fn octets_shown(alloc: Global, rtype: Rtype, octets: &[u8]) -> Result<Answer, No
     ensures { IfOk result (λ answer. answer_view answer ≡ data_shown (data_in rtype octets.now)) }
 {
     let mut parser = Parser::from_ref(octets);
-    match AllRecordData::parse_any_rdata(alloc, rtype, &mut parser) {
-        Ok(found) => {
-            if parser.remaining() > 0 {
-                return text_answer(alloc, Outcome::NotDone, "error: form error\n");
-            }
-            Ok(Answer {
-                outcome: Outcome::Done,
-                report: format!(in alloc; "{found}\n")?,
-            })
-        }
-        Err(ParseError::ShortInput) => {
-            text_answer(alloc, Outcome::NotDone, "error: short input\n")
-        }
-        Err(ParseError::Form) => text_answer(alloc, Outcome::NotDone, "error: form error\n"),
+    match AllRecordData::parse_whole(alloc, rtype, &mut parser) {
+        Ok(data) => Ok(Answer {
+            outcome: Outcome::Done,
+            report: format!(in alloc; "{data}\n")?,
+        }),
         Err(ParseError::NoMemory) => Err(NoMemory),
+        Err(error) => Ok(Answer {
+            outcome: Outcome::NotDone,
+            report: format!(in alloc; "error: {error}\n")?,
+        }),
     }
 }
 

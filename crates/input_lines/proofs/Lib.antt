@@ -3,4 +3,3 @@ pub mod LineLemmas
 pub mod NumberLemmas
 pub mod SpellingLemmas
 pub mod TokenLemmas
-pub mod EntryFaults

@@ -4,9 +4,9 @@ use Rattle.std.specs.Result.{result_ok}
 use Rattle.text_spec.specs.declared.errors.ScanError.{ScanError}
 use Rattle.text_spec.specs.declared.errors.ScanError.TheVariants.{NoMemory}
 use Rattle.text_spec.specs.declared.lexeme.Symbol.{Symbol}
-use Rattle.text_spec.specs.Rows.{by_name}
 use Rattle.text_spec.specs.Scanning.{Scanning, any_octets}
 use Rattle.text_spec.specs.Tokens.{text_fault, tokens_in}
+use Rattle.dns_text.specs.NameInText.{name_in_text}
 use Rattle.input_lines.specs.Options.{◌>>=◌}
 
 -- what a text is scanned as: its first lexical fault, and else what its tokens are
@@ -35,7 +35,7 @@ lone_token = lone any_octets
 
 -- the labels of the name that it spells
 abbrev pub lone_name : List ℕ → Option (List (List ℕ))
-lone_name = lone by_name
+lone_name text = result_ok (name_in_text text)
 
 -- A call answers, seen by `view`, what a line has, or that it has none. A failed allocation says
 -- nothing of the line.

@@ -5,7 +5,7 @@ ghost use Rattle.input_lines.specs.Tokens.{entry_tokens, lone_token, lone_name, 
 
 use crate::faults::{InputFault, SpellError};
 use crate::lines::Lines;
-use dns_text::{Entry, EntryScanner, Scanner};
+use dns_text::{EntryScanner, Scanner, name_from_text};
 use std::alloc::Global;
 use text_spec::ScanError;
 use wire_base::{Name, Octets};
@@ -16,22 +16,10 @@ pub fn lone_token(alloc: Global, line: &[u8]) -> Result<Octets, ScanError>
     ensures value { ReadsAs (λ octets. octets) result (lone_token line.now) }
     ensures memory { IsErrOf result ScanError.NoMemory → IsSome (entry_tokens line.now) }
 {
-    let mut scanner = EntryScanner::new(Entry::from_text(line)?);
+    let mut scanner = EntryScanner::from_text(line)?;
     let octets = scanner.scan_octets(alloc)?;
     scanner.check_end()?;
     Ok(octets)
-}
-
-/// The name that the token of a line spells, where the line is an entry with exactly one. Any error but `NoMemory` says
-/// that there is none. `NoMemory` comes only where the line is an entry.
-pub fn lone_name(alloc: Global, line: &[u8]) -> Result<Name, ScanError>
-    ensures value { ReadsAs (λ name. name) result (lone_name line.now) }
-    ensures memory { IsErrOf result ScanError.NoMemory → IsSome (entry_tokens line.now) }
-{
-    let mut scanner = EntryScanner::new(Entry::from_text(line)?);
-    let name = scanner.scan_name(alloc)?;
-    scanner.check_end()?;
-    Ok(name)
 }
 
 /// Reads the next line, which has this number, as a name. `Fault` says that it is missing or bad, and comes surely where
@@ -44,7 +32,7 @@ pub fn name_line(alloc: Global, input: &mut Lines<'_>, number: u64) -> Result<Na
         → IsSomeAnd (slice_get input.old 0) (λ line. IsSome (entry_tokens line)) }
 {
     let line = input.next().ok_or(InputFault::BadLine(number))?;
-    match lone_name(alloc, line) {
+    match name_from_text(alloc, line) {
         Ok(name) => Ok(name),
         Err(ScanError::NoMemory) => Err(SpellError::NoMemory),
         Err(_) => Err(SpellError::Fault(InputFault::BadLine(number))),

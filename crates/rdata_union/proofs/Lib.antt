@@ -1,2 +1,3 @@
 mod ReadingAnswers
 mod FieldOrders
+mod WholeReading

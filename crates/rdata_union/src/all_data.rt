@@ -3,10 +3,12 @@
 ghost use Rattle.std.specs.Prelude.{◌≡◌, ◌↔◌, true, Err, IfOk, OnOk, OnErr, IsErrOf};
 ghost use Rattle.name_spec.specs.Octets.{Short, Form};
 ghost use Rattle.wire_base.specs.Faults.{GivesCopy};
+ghost use Rattle.wire_base.specs.Moving.{TakesAll};
 ghost use Rattle.wire_base.specs.RecordReading.{place_behind};
 ghost use Rattle.wire_base.specs.declared.errors.ParseError.TheVariants as errors;
 ghost use Rattle.record_spec.specs.UnionReading.{union_read};
 ghost use Rattle.rdata_union.specs.Views.{data_of_all, data_of_zone, data_of_ref, value_read};
+ghost use Rattle.rdata_union.specs.WholeData.{GivesWhole};
 
 use crate::data_ref::RecordDataRef;
 use crate::each_type::each_type;
@@ -77,6 +79,35 @@ impl AllRecordData {
         ensures form { IsErrOf result errors.Form ↔ (union_read rtype parser.old ≡ Err Form) }
     {
         AllRecordData::read(alloc, rtype, parser)
+    }
+
+    /// Reads the data that all octets before the end of the data are, with the number of its type.
+    ///
+    /// After an error the parser is unchanged.
+    ///
+    /// - `ShortInput`, `Form`: the first fault of the data, as [`parse_any_rdata`](Self::parse_any_rdata) says.
+    /// - `Form`: octets are left behind the data.
+    /// - `NoMemory`: the data has no fault, but allocation failed.
+    pub fn parse_whole(
+        alloc: Global,
+        rtype: Rtype,
+        parser: &mut Parser<'_>,
+    ) -> Result<AllRecordData, ParseError>
+        ensures answer { GivesWhole data_of_all result parser.old.end
+            (union_read rtype parser.old) }
+        ensures takes { TakesAll parser.old parser.new result }
+    {
+        let mut part = parser.fork();
+        match AllRecordData::parse_any_rdata(alloc, rtype, &mut part) {
+            Ok(data) => {
+                if part.remaining() > 0 {
+                    return Err(ParseError::Form);
+                }
+                parser.advance_to_end();
+                Ok(data)
+            }
+            Err(error) => Err(error),
+        }
     }
 
     /// The data that its type reads.

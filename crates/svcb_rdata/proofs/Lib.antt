@@ -1,4 +1,5 @@
 mod DocumentParts
+mod PrintedTargets
 pub mod Pushes
 pub mod Records
 pub mod ReaderLaws

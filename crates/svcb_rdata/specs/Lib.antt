@@ -4,4 +4,3 @@ pub mod Pushing
 pub mod Reading
 pub mod Comparing
 pub mod Laws
-pub mod Texts

@@ -1,28 +1,49 @@
 //! Why record data is not rebuilt.
 
-ghost use Rattle.std.specs.Prelude.{◌≡◌};
+ghost use Rattle.std.specs.Prelude.{◌≡◌, Some};
+ghost use Rattle.svcb_rdata.specs.RebuildErrors.{rebuild_error_text};
 ghost use Rattle.svcb_rdata.specs.declared.errors.RebuildError.TheVariants as errors;
 
+use std::fmt;
 use svcb_params::BufError;
-use thiserror::Error;
 use wire_base::{LongRecordData, NoMemory, ParseError};
 
 /// Why record data was not rebuilt.
-#[derive(Clone, Copy, Debug, PartialEq, Eq, Error)]
+#[derive(Clone, Copy, Debug, PartialEq, Eq)]
 pub enum RebuildError {
     /// The record data has a fault, which is `ShortInput` or `Form` and never `NoMemory`.
-    #[error(transparent)]
     Parse(ParseError),
     /// The parameters that were read have more octets in wire form than the limit.
-    #[error("short buffer")]
     ShortBuf,
     /// The rebuilt record data would have more than 65,535 octets.
-    #[error("long record data")]
     LongRecordData,
     /// Allocation for the result failed.
-    #[error("want of memory")]
     NoMemory,
 }
+
+impl RebuildError {
+    /// The text of the error, which `Display` writes too.
+    pub fn as_str(self) -> &'static str
+        ensures { result.now ≡ rebuild_error_text self }
+    {
+        match self {
+            RebuildError::Parse(error) => error.as_str(),
+            RebuildError::ShortBuf => "short buffer",
+            RebuildError::LongRecordData => LongRecordData.as_str(),
+            RebuildError::NoMemory => ParseError::NoMemory.as_str(),
+        }
+    }
+}
+
+impl fmt::Display for RebuildError {
+    ghost output = { λ error. Some (rebuild_error_text error) };
+
+    fn fmt<W: fmt::Write>(&self, f: &mut fmt::Formatter<W>) -> fmt::Result {
+        f.write_str(self.as_str())
+    }
+}
+
+impl std::error::Error for RebuildError {}
 
 /// A fault of the data stays one; failed allocation is `NoMemory`.
 impl From<ParseError> for RebuildError {

@@ -1,19 +1,23 @@
 //! Record data of SVCB and HTTPS as text (RFC 9460, section 2.1).
 
 ghost use Rattle.std.specs.Prelude.{◌≡◌, Some};
+ghost use Rattle.name_spec.specs.Printed.{printed_name_with_dot};
 ghost use Rattle.text_spec.specs.Scanning.{Scan, Scans, ScansPart};
 ghost use Rattle.svcb_spec.specs.DataTexts.{svcb_printed, svcb_data};
 ghost use Rattle.svcb_spec.specs.DataDocuments.{svcb_document};
 ghost use Rattle.svcb_spec.specs.DataDocumentLaws.{document-svcb};
-ghost use Rattle.svcb_rdata.specs.Texts.{ReadsBack};
+ghost use Rattle.text_spec.specs.ReadingBack.{ReadsBack};
+ghost use Rattle.svcb_laws.specs.DataTextLaws.{IsRecordOfOctets};
+ghost use Rattle.svcb_rdata.specs.Reading.{record_of};
 
 use crate::rdata::SvcbRdata;
+use crate::svcb_ref::SvcbRef;
 use dns_text::{Formatter, Scanner, ZonefileFmt};
 use std::alloc::Global;
 use std::fmt;
 use svcb_params::SvcParams;
 use text_spec::ScanError;
-use wire_base::NoMemory;
+use wire_base::{NoMemory, ParsedName};
 
 impl<V> SvcbRdata<V> {
     /// The data that all tokens left spell: the priority, the target, and the parameters in any order.
@@ -30,7 +34,8 @@ impl<V> SvcbRdata<V> {
     pub fn scan<S: Scanner>(alloc: Global, scanner: &mut S) -> Result<SvcbRdata<V>, ScanError>
         ensures scans { Scans (λ found. found) svcb_data
             (S.scan scanner.old) (S.scan scanner.new) result }
-        ensures read_back { ReadsBack (S.scan scanner.old) result }
+        ensures read_back { ReadsBack (λ found. found) IsRecordOfOctets svcb_printed
+            (S.scan scanner.old) result }
     {
         let place = scanner.taken();
         let outcome = scan_parts(alloc, scanner);
@@ -57,6 +62,39 @@ impl<V> fmt::Display for SvcbRdata<V> {
     fn fmt<W: fmt::Write>(&self, f: &mut fmt::Formatter<W>) -> fmt::Result {
         let target = self.target().fmt_with_dot();
         write!(f, "{} {} {}", self.priority(), target, self.params())
+    }
+}
+
+/// A target in a message as absolute text: its pointers followed, with the final dot.
+#[derive(Clone, Copy)]
+struct DottedTarget<'n, 'm> {
+    name: &'n ParsedName<'m>,
+}
+
+impl fmt::Display for DottedTarget<'_, '_> {
+    ghost output = { λ dotted. Some (printed_name_with_dot dotted.name.now.labels) };
+
+    #[tactic(auto, using(crate::proofs::PrintedTargets::with_final_dot))]
+    fn fmt<W: fmt::Write>(&self, f: &mut fmt::Formatter<W>) -> fmt::Result {
+        let name = self.name;
+        let mut labels = name.labels();
+        match labels.next() {
+            Some(_) => write!(f, "{name}."),
+            None => f.write_str("."),
+        }
+    }
+}
+
+/// The text of the same data by itself, its target's pointers followed.
+impl<V> fmt::Display for SvcbRef<'_, V> {
+    ghost output = { λ found. Some (svcb_printed (record_of found)) };
+
+    fn fmt<W: fmt::Write>(&self, f: &mut fmt::Formatter<W>) -> fmt::Result {
+        let target = DottedTarget {
+            name: self.target(),
+        };
+        let params = self.params();
+        write!(f, "{} {target} {params}", self.priority())
     }
 }
 
