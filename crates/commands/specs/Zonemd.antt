@@ -6,7 +6,7 @@ use Rattle.record_spec.specs.Rows.{Data}
 use Rattle.record_spec.specs.Wire.{read_data}
 use Rattle.digest_rdata.specs.FieldsView.{FieldsView}
 use Rattle.digest_rdata.specs.declared.zonemd.ZonemdFields.{ZonemdFields}
-use Rattle.zonemd_check.specs.RecordView.{RecordView}
+use Rattle.zonemd_check.specs.ZoneRecordView.{ZoneRecordView}
 use Rattle.zonemd_check.specs.Ordering.{records_ascend}
 use Rattle.zonemd_check.specs.Verdicts.{zonemd_verdict}
 use Rattle.zonemd_check.specs.declared.verdict.ZonemdVerdict.{ZonemdVerdict}
@@ -43,10 +43,10 @@ zonemd_in digits = option_and_then zonemd_read (hexadecimal_octets digits)
 pub record Zone : Type 0 where
   pub apex : List (List ℕ)
   pub zonemd : FieldsView ZonemdFields
-  pub records : List RecordView
+  pub records : List ZoneRecordView
 
 -- a record that belongs before the one before it is a fault
-abbrev pub order_fault : List RecordView → Option InputFault
+abbrev pub order_fault : List ZoneRecordView → Option InputFault
 order_fault records = if records_ascend records then None else Some RecordsNotAscending
 
 -- The zone of an input, or its first fault: line 1 is the apex, line 2 the data of the ZONEMD

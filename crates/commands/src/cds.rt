@@ -8,11 +8,11 @@ ghost use Rattle.commands.specs.Cds.{cds_in, key_in, key_line, cds_among, keys_a
 
 use crate::data_lines::fields_in;
 use cds_check::{CdsVerdict, check_cds};
+use digest_rdata::{Cdnskey, Cds};
 use input_lines::faults::{InputFault, SpellError};
 use input_lines::lines::Lines;
 use input_lines::report::{Answer, Outcome, refused_answer};
 use input_lines::tokens::name_line;
-use digest_rdata::{Cdnskey, Cds};
 use std::alloc::Global;
 use std::fmt;
 use wire_base::NoMemory;

@@ -7,8 +7,8 @@ ghost use Rattle.record_spec.specs.Wire.{read_data};
 ghost use Rattle.digest_rdata.specs.FieldsView.{data_of};
 ghost use Rattle.commands.specs.DataLines.{svcb_line, fields_line};
 
-use input_lines::hexadecimal::octets_in;
 use digest_rdata::{AssociationData, AssociationFields};
+use input_lines::hexadecimal::octets_in;
 use std::alloc::Global;
 use svcb_rdata::Svcb;
 use wire_base::{NoMemory, ParseError, Parser};

@@ -11,12 +11,12 @@ ghost use Rattle.commands.specs.Zonemd.{zonemd_in, zonemd_read, zone_of, zone_te
 ghost use Rattle.commands.specs.ZoneView.{zone_view};
 
 use crate::zone_lines::record_in;
+use digest_rdata::Zonemd;
 use input_lines::faults::{InputFault, SpellError};
 use input_lines::hexadecimal::octets_in;
 use input_lines::lines::Lines;
 use input_lines::report::{Answer, Outcome, refused_answer, text_answer};
 use input_lines::tokens::name_line;
-use digest_rdata::Zonemd;
 use std::alloc::Global;
 use wire_base::{Name, NoMemory, ParseError, Parser};
 use zonemd_check::{ZoneRecord, ZonemdVerdict, check_zonemd, records_ascend};

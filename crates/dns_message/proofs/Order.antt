@@ -9,11 +9,11 @@ use Rattle.wire_base.specs.Input.{Input}
 use Rattle.wire_base.specs.NameView.{next_name}
 use Rattle.wire_base.specs.RecordReading.{DataRead}
 use Rattle.wire_base.specs.declared.errors.ParseError.{ParseError}
-use Rattle.dns_message.specs.Entries.{RecordView, entries, next_record, record_in, record_behind, with_entry}
+use Rattle.dns_message.specs.Entries.{MessageRecord, entries, next_record, record_in, record_behind, with_entry}
 use Rattle.dns_message.specs.Laws.{StandsIn, StandInOrder}
 
 -- a record that was read is the one behind its owner, and doesn't go past the end
-record_found : (input : Input) (name : NameRead) (found : DataRead RecordView)
+record_found : (input : Input) (name : NameRead) (found : DataRead MessageRecord)
     → record_behind input name ≡ Ok found
     → (found ≡ record_in input name) × (found.next ≤ input.end)
 record_found input name found is = elim (cases_lt input.end (name.next + 10)) [
@@ -31,7 +31,7 @@ record_found input name found is = elim (cases_lt input.end (name.next + 10)) [
 ]
 
 -- a record's data stands behind the place where the record begins
-stands_behind : (input : Input) (read : Result NameRead Fault) (found : DataRead RecordView)
+stands_behind : (input : Input) (read : Result NameRead Fault) (found : DataRead MessageRecord)
     → next_name input ≡ read → (read >>= record_behind input) ≡ Ok found
     → StandsIn input found.value × (found.next ≡ found.value.rdata.end)
 stands_behind input (Ok name) found named is =
@@ -43,15 +43,15 @@ stands_behind input (Ok name) found named is =
         message = refl;
         behind = omega arith;
         ascends = omega arith;
-        within = subst (λ (f : DataRead RecordView). f.next ≤ input.end) known.0 known.1;
+        within = subst (λ (f : DataRead MessageRecord). f.next ≤ input.end) known.0 known.1;
       },
       refl,
     )
 stands_behind input (Err fault) found named is = absurd cc
 
 -- the first item stands in order, and so do the others behind it
-first_in_order : (input : Input) (read : Result (DataRead RecordView) Fault)
-    (others : ℕ → List (Result RecordView ParseError)) → next_record input ≡ read
+first_in_order : (input : Input) (read : Result (DataRead MessageRecord) Fault)
+    (others : ℕ → List (Result MessageRecord ParseError)) → next_record input ≡ read
     → ((next : ℕ) → StandInOrder (record input { pos = next }) (others next))
     → StandInOrder input (with_entry read others)
 first_in_order input (Ok found) others is behind =

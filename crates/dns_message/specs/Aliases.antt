@@ -6,7 +6,7 @@ use Rattle.wire_base.specs.Faults.{error_of}
 use Rattle.wire_base.specs.Input.{Input}
 use Rattle.wire_base.specs.NameView.{NameView, next_name}
 use Rattle.wire_base.specs.declared.errors.ParseError.{ParseError}
-use Rattle.dns_message.specs.Entries.{RecordView, Section, next_record, section_entries, seen_name}
+use Rattle.dns_message.specs.Entries.{MessageRecord, Section, next_record, section_entries, seen_name}
 use Rattle.dns_message.specs.Headers.{header_of}
 use Rattle.dns_message.specs.Messages.{answers_start, section_behind}
 use Rattle.dns_message.specs.Searching.{is_of}
@@ -16,7 +16,7 @@ use Rattle.dns_message.specs.declared.errors.AliasError.TheVariants as errors
 -- ---- one alias
 
 -- an alias of a name: its record of type 5, CNAME, in class 1, the internet
-abbrev pub is_alias : List (List ℕ) → RecordView → Bool
+abbrev pub is_alias : List (List ℕ) → MessageRecord → Bool
 is_alias owner found = found.class == 1 && is_of owner 5 found
 
 -- a name that ends where the data does; octets behind it are a fault
@@ -24,7 +24,7 @@ abbrev pub name_to_end : Input → NameRead → Result NameView Fault
 name_to_end input name = if name.next == input.end then Ok (seen_name input name) else Err Form
 
 -- the name that the data of a record wholly is, or its fault
-abbrev pub name_of_data : RecordView → Result NameView Fault
+abbrev pub name_of_data : MessageRecord → Result NameView Fault
 name_of_data found = next_name found.rdata >>= name_to_end found.rdata
 
 -- what an alias leads to: the name that was read in it, or its fault
@@ -34,7 +34,7 @@ led_to (Err fault) = Err (errors.Parse (error_of fault))
 
 -- what the first alias of a name leads to, among the items of a section, if there is one; or the
 -- fault in front of it
-abbrev pub first_alias : List (List ℕ) → List (Result RecordView ParseError)
+abbrev pub first_alias : List (List ℕ) → List (Result MessageRecord ParseError)
     → Result (Option NameView) AliasError
 first_alias owner [] = Ok None
 first_alias owner (Ok found ∷ items) =

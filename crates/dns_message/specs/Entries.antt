@@ -16,7 +16,7 @@ pub record QuestionView : Type 0 where
   pub qclass : ℕ
 
 -- a record: its owner, its fixed fields, and its data as what a parser of it reads
-pub record RecordView : Type 0 where
+pub record MessageRecord : Type 0 where
   pub owner : NameView
   pub rtype : ℕ
   pub class : ℕ
@@ -47,7 +47,7 @@ next_question input = next_name input >>= question_behind input
 
 -- the record whose owner was read: ten octets of fixed fields, the last two of which count the
 -- octets of the data behind them
-abbrev pub record_in : Input → NameRead → DataRead RecordView
+abbrev pub record_in : Input → NameRead → DataRead MessageRecord
 record_in input name =
     let message = input.message in
     let start = name.next + 10 in
@@ -64,14 +64,14 @@ record_in input name =
     }
 
 -- that record, where neither its fixed fields nor its data go past the end
-abbrev pub record_behind : Input → NameRead → Result (DataRead RecordView) Fault
+abbrev pub record_behind : Input → NameRead → Result (DataRead MessageRecord) Fault
 record_behind input name =
     if nat_lt input.end (name.next + 10) then Err Short
     else if nat_lt input.end (record_in input name).next then Err Short
     else Ok (record_in input name)
 
 -- the record at a parser's place, or its first fault
-abbrev pub next_record : Input → Result (DataRead RecordView) Fault
+abbrev pub next_record : Input → Result (DataRead MessageRecord) Fault
 next_record input = next_name input >>= record_behind input
 
 -- how one kind of entry is read at a parser's place

@@ -19,9 +19,9 @@ pub struct ParsedRecord<'a> {
 }
 
 impl<'a> Model for ParsedRecord<'a> {
-    ghost use Rattle.dns_message.specs.Entries.{RecordView};
+    ghost use Rattle.dns_message.specs.Entries.{MessageRecord};
 
-    ghost Value = { RecordView };
+    ghost Value = { MessageRecord };
 
     ghost view = { λ found. record {
       owner = found.owner;
@@ -107,9 +107,9 @@ impl<'a> ParsedRecord<'a> {
 }
 
 impl<'a> ParseEntry<'a> for ParsedRecord<'a> {
-    ghost use Rattle.dns_message.specs.Entries.{RecordView, next_record};
+    ghost use Rattle.dns_message.specs.Entries.{MessageRecord, next_record};
 
-    ghost Seen = { RecordView };
+    ghost Seen = { MessageRecord };
 
     ghost seen = { λ found. found };
 

@@ -56,7 +56,7 @@ use Rattle.edit_program.specs.Show.{second_fault, only_line, spelled_octets, who
 use Rattle.input_lines.specs.declared.faults.InputFault.{InputFault}
 use Rattle.edit_program.specs.declared.words.Command.{Command}
 use Rattle.edit_program.specs.declared.words.Command.TheVariants.{Show, Scan}
-use Rattle.edit_program.proofs.ReadData.{AreSmall, octets_from, label_octets, rdata_small}
+use Rattle.edit_program.proofs.ReadData.{AreBelow256, octets_from, label_octets, rdata_small}
 
 -- ---- inputs that aren't too long
 
@@ -130,7 +130,7 @@ scanned_back texts rtype found text is text_is =
 
 -- what is read under a type number is data of it, whose line isn't too long
 abbrev IsReadShort : ℕ → Type 0
-IsReadShort rtype = (octets : List ℕ) (found : RecordData) → AreSmall octets
+IsReadShort rtype = (octets : List ℕ) (found : RecordData) → AreBelow256 octets
     → data_in rtype octets ≡ Ok found
     → IsShortData rtype found
 
@@ -158,13 +158,13 @@ ok_decoded (Ok x) octets is = cc
 ok_decoded (Err error) octets is = absurd cc
 
 hexadecimal_small : (line : Option (List ℕ)) (octets : List ℕ)
-    → option_and_then hexadecimal_octets line ≡ Some octets → AreSmall octets
+    → option_and_then hexadecimal_octets line ≡ Some octets → AreBelow256 octets
 hexadecimal_small None octets is = absurd cc
 hexadecimal_small (Some text) octets is =
     (decode_of-ok text octets (ok_decoded (decode_of text) octets is)).3
 
 spelled_small : (all : List (List ℕ)) (octets : List ℕ) → only_line all ≡ Ok octets
-    → AreSmall octets
+    → AreBelow256 octets
 spelled_small all octets is =
     hexadecimal_small (slice_get all 0) octets
     (some_needed (option_and_then hexadecimal_octets (slice_get all 0))
@@ -225,7 +225,7 @@ part_read type end (Ok held) found is =
 -- a type of one form
 module _ (composed : FieldsComposedBack) (row : Row) (fits : LineFits row)
     (type : Data → RecordData) where
-  fields_read : (octets : List ℕ) (found : RecordData) → AreSmall octets
+  fields_read : (octets : List ℕ) (found : RecordData) → AreBelow256 octets
       → whole_data (length octets)
       (read_as type
       (read_up_to (length octets) (read_data row (octets_left (whole_message octets)))))
@@ -287,7 +287,7 @@ all_octets : (octets : List ℕ) → length octets ≡ length octets - 0
 all_octets octets = omega arith
 
 module _ (is_data : ReadIsData) (fits : DataLineFits) where
-  service_data : (octets : List ℕ) (held : Record) → AreSmall octets
+  service_data : (octets : List ℕ) (held : Record) → AreBelow256 octets
       → read octets 0 (length octets) ≡ Ok held → IsRecordOfOctets held
   service_data octets held small is =
       is_data octets 0 (length octets) held (octets_from octets small) (omega arith) is
@@ -307,7 +307,7 @@ module _ (is_data : ReadIsData) (fits : DataLineFits) where
       rw held.2 (record { number = refl; is_data = is_data; fits = fits held.0 is_data })
 
 -- an address that is read has its octets
-address_held : (len : ℕ) (octets : List ℕ) (held : DataRead (List ℕ)) → AreSmall octets
+address_held : (len : ℕ) (octets : List ℕ) (held : DataRead (List ℕ)) → AreBelow256 octets
     → address_read len (whole_message octets) ≡ Ok held
     → IsAddress len held.value
 address_held len octets held small is = elim (cases_lt (length octets) (0 + len)) [
@@ -500,7 +500,7 @@ one_line : (line : List ℕ) → without_empty_last (line ∷ [] ∷ []) ≡ lin
 one_line [] = refl
 one_line (c ∷ line) = refl
 
-spelled_back : (octets : List ℕ) → AreSmall octets
+spelled_back : (octets : List ℕ) → AreBelow256 octets
     → spelled_octets (report.line (encode_lower octets)) ≡ Ok octets
 spelled_back octets small =
     let digits = encode_lower octets in

@@ -13,10 +13,10 @@ use Rattle.svcb_laws.specs.DataTextLaws.{IsRecordOfOctets}
 use Rattle.svcb_laws.proofs.DataOctets.{octets_parts, octets_joined}
 
 -- what is known of a list's numbers, place by place
-abbrev pub AreSmall : List ℕ → Type 0
-AreSmall octets = (i : ℕ) → slice_index octets i < 256
+abbrev pub AreBelow256 : List ℕ → Type 0
+AreBelow256 octets = (i : ℕ) → slice_index octets i < 256
 
-pub octets_from : (octets : List ℕ) → AreSmall octets → AreOctets octets
+pub octets_from : (octets : List ℕ) → AreBelow256 octets → AreOctets octets
 octets_from [] small = tt
 octets_from (octet ∷ octets) small = (small 0, octets_from octets (λ i. small (suc i)))
 
@@ -41,7 +41,7 @@ label_octets message from to are =
 
 -- ---- the octets of data
 
-small_from : (octets : List ℕ) → AreOctets octets → AreSmall octets
+small_from : (octets : List ℕ) → AreOctets octets → AreBelow256 octets
 small_from [] are i = omega arith
 small_from (octet ∷ octets) are zero = are.0
 small_from (octet ∷ octets) are (suc i) = small_from octets are.1 i
@@ -72,7 +72,7 @@ pairs_octets (pair ∷ pairs) least up are =
     (pairs_octets pairs (pair.0 + 1) up.3 are.1)
 
 pub rdata_small : (found : Record) → IsRecordOfOctets found
-    → AreSmall (rdata found.priority found.labels found.pairs)
+    → AreBelow256 (rdata found.priority found.labels found.pairs)
 rdata_small found is =
     let record_is = is.is_record in
     let pairs = subst AreOctets (sym (wire-pairs found.pairs record_is.is_map))

@@ -9,8 +9,8 @@ use crate::scan::scan_answer;
 use crate::show::show_answer;
 use crate::words::Command;
 use commands::{cds_answer, choose_answer, zonemd_answer};
-use input_lines::report::{Answer, Outcome, text_answer};
 use devices::MAX_INPUT;
+use input_lines::report::{Answer, Outcome, text_answer};
 use std::alloc::Global;
 use wire_base::NoMemory;
 

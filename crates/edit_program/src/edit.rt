@@ -8,11 +8,11 @@ ghost use Rattle.edit_program.specs.Edit.{report_of, rebuild_report, due_of_edit
 ghost use Rattle.input_lines.specs.Report as report;
 ghost use Rattle.input_lines.specs.ReportView.{answer_view};
 
-use crate::report::done_report;
 use crate::edit_input::{EditInput, read_edit_input};
+use crate::report::done_report;
+use devices::MAX_INPUT;
 use input_lines::faults::SpellError;
 use input_lines::report::{Answer, Outcome, refused_answer};
-use devices::MAX_INPUT;
 use std::alloc::Global;
 use svcb_rdata::{RebuildError, rebuild_svcb};
 use wire_base::{NoMemory, ParseError};

@@ -11,10 +11,10 @@ ghost use Rattle.edit_program.specs.EditInputView.{edit_input_view};
 
 use crate::data_bounds::{DataBounds, data_bounds_in};
 use crate::pushes::push_in;
+use devices::MAX_INPUT;
 use input_lines::faults::{InputFault, SpellError};
 use input_lines::hexadecimal::octets_line;
 use input_lines::lines::Lines;
-use devices::MAX_INPUT;
 use std::alloc::Global;
 use svcb_rdata::AllValues;
 use wire_base::Octets;

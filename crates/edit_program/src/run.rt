@@ -15,9 +15,9 @@ ghost use Rattle.input_lines.specs.declared.exit_status.ExitStatus.TheVariants a
 use crate::command_answers::command_answer;
 use crate::run_error::RunError;
 use crate::words::{Command, command_in};
+use devices::{MAX_INPUT, Sink, Source, read_input, write_all};
 use input_lines::exit_status::ExitStatus;
 use input_lines::report::Answer;
-use devices::{MAX_INPUT, Sink, Source, read_input, write_all};
 use std::alloc::Global;
 
 /// The report on words that are no command, a constant, so that no memory is taken for it.

@@ -2,8 +2,8 @@
 ghost use Rattle.std.specs.Prelude.{◌≡◌};
 ghost use Rattle.edit_program.specs.RunErrors.{run_error_status};
 
-use input_lines::exit_status::ExitStatus;
 use devices::{Failed, ReadError};
+use input_lines::exit_status::ExitStatus;
 use thiserror::Error;
 use wire_base::NoMemory;
 

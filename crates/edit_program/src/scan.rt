@@ -7,8 +7,8 @@ ghost use Rattle.input_lines.specs.ReportView.{answer_view};
 ghost use Rattle.input_lines.specs.Tokens.{entry_scanned};
 ghost use Rattle.edit_program.specs.Scan.{due_of_scan};
 
-use input_lines::report::{Answer, Outcome, octets_answer};
 use dns_text::EntryScanner;
+use input_lines::report::{Answer, Outcome, octets_answer};
 use rdata_union::ZoneRecordData;
 use std::alloc::Global;
 use text_spec::ScanError;

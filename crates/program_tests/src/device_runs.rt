@@ -1,7 +1,7 @@
 //! Runs over devices in memory of which one call fails.
-use edit_program::run::run;
 use crate::runs::words;
 use devices::{MemorySink, MemorySource};
+use edit_program::run::run;
 use std::test::Fail;
 
 /// An input of `edit` of 39 octets, and its report of as many.

@@ -1,9 +1,9 @@
 //! Runs of the program on long inputs.
 ghost use Rattle.std.specs.Prelude.{◌<◌};
 
-use edit_program::run::run;
 use crate::runs::{Ended, run_long, words};
 use devices::{MAX_INPUT, SureSink, SureSource};
+use edit_program::run::run;
 use std::alloc::AllocError;
 use std::fmt::Write;
 use std::test::Fail;

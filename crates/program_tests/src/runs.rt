@@ -1,6 +1,6 @@
 //! Runs of the program over devices in memory.
-use edit_program::run::run;
 use devices::{MAX_INPUT, MemorySink, MemorySource, SureSink, SureSource};
+use edit_program::run::run;
 use std::alloc::AllocError;
 use std::test::Fail;
 

@@ -1,4 +1,4 @@
--- Laws of the data of these records, which the functions of `src/laws.rt` state.
+-- Laws of the data of these records, which the functions of `src/records.rt` state.
 use Rattle.std.specs.Prelude.{◌≡◌, ℕ, ◌+◌, ◌^◌, ◌≤◌, false, List, [], ◌∷◌, ◌++◌, length, Ok}
 use Rattle.std.specs.List.{flat_map}
 use Rattle.name_spec.specs.AddressLaws.{AreOctets}

@@ -1,4 +1,4 @@
--- Laws of how long the texts of these records are, which the functions of `src/laws.rt` state.
+-- Laws of how long the texts of these records are, which the functions of `src/text_lengths.rt` state.
 use Rattle.std.specs.Prelude.{ℕ, ◌+◌, ◌*◌, ◌<◌, ◌≤◌, List, [], ◌∷◌, ◌++◌, length}
 use Rattle.wire_records.specs.Texts.{unknown_text}
 use Rattle.record_spec.specs.Rows.{Row, Data, IsAssociationData, cds, cdnskey, sshfp, tlsa, zonemd, openpgpkey}

@@ -1,4 +1,4 @@
--- Laws of the data of records of any type, which the functions of `src/laws.rt` state.
+-- Laws of the data of records of any type, which the functions of `src/any_type.rt` state.
 use Rattle.std.specs.Prelude.{◌≡◌, ℕ, ◌≤◌, false, length}
 use Rattle.name_spec.specs.AddressLaws.{AreOctets}
 use Rattle.record_spec.specs.Rows.{IsAssociationData, sshfp, tlsa, cds, cdnskey, openpgpkey, zonemd}

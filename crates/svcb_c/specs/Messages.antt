@@ -4,7 +4,7 @@ use Rattle.name_spec.specs.Octets.{Fault, Short, number_at}
 use Rattle.name_spec.specs.Names.{name_wire}
 use Rattle.wire_base.specs.Input.{Input}
 use Rattle.wire_base.specs.RecordReading.{DataRead}
-use Rattle.dns_message.specs.Entries.{RecordView, next_record}
+use Rattle.dns_message.specs.Entries.{MessageRecord, next_record}
 use Rattle.dns_message.specs.Messages.{answers_start}
 use Rattle.svcb_c.specs.Buffers.{over, room_status}
 use Rattle.svcb_c.specs.Statuses.{fault_status}
@@ -34,11 +34,11 @@ IsBegun (Err fault) message seen = ⊥
 -- ---- a record
 
 -- the record at a place in a message, or its first fault
-abbrev pub record_at : List ℕ → ℕ → Result (DataRead RecordView) Fault
+abbrev pub record_at : List ℕ → ℕ → Result (DataRead MessageRecord) Fault
 record_at message pos =
     next_record (record { message = message; end = length message; pos = pos })
 
-abbrev pub found_status : Result (DataRead RecordView) Fault → ℕ → ℕ
+abbrev pub found_status : Result (DataRead MessageRecord) Fault → ℕ → ℕ
 found_status (Ok found) room = room_status (name_wire found.value.owner.labels) room
 found_status (Err fault) room = fault_status fault
 
@@ -50,7 +50,7 @@ record_status message pos room =
 
 -- its fixed fields, the places of its data and of what follows it, and its owner uncompressed in
 -- the buffer
-abbrev pub IsRecordSeen : Result (DataRead RecordView) Fault → HwRecord → List ℕ → List ℕ
+abbrev pub IsRecordSeen : Result (DataRead MessageRecord) Fault → HwRecord → List ℕ → List ℕ
     → Type 0
 IsRecordSeen (Ok found) seen before after =
     (seen.rtype ≡ found.value.rtype) × (seen.class ≡ found.value.class)

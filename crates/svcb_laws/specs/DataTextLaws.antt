@@ -1,4 +1,4 @@
--- Laws of the texts of SVCB and HTTPS data, which the functions of `src/laws.rt` state.
+-- Laws of the texts of SVCB and HTTPS data, which the functions of `src/data_texts.rt` state.
 use Rattle.std.specs.Prelude.{◌≡◌, ℕ, ◌+◌, ◌≤◌, Ok, List, [], ◌∷◌, ◌++◌, length}
 use Rattle.std.specs.List.{flat_map}
 use Rattle.name_spec.specs.AddressLaws.{AreOctets}

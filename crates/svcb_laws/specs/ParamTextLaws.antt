@@ -1,4 +1,4 @@
--- Laws of the texts of service parameters, which the functions of `src/laws.rt` state.
+-- Laws of the texts of service parameters, which the functions of `src/param_texts.rt` state.
 use Rattle.std.specs.Prelude.{◌≡◌, ◌≢◌, ◌↔◌, ℕ, ◌+◌, ◌^◌, ◌<◌, true, List, [], ◌∷◌, ◌++◌, length, map, Contains, IsPermutation, Option, Some, Ok}
 use Rattle.std.specs.List.{join_with_byte, AllByRecursion}
 use Rattle.name_spec.specs.Addresses.{ipv4_of, ipv6_of}

@@ -1,4 +1,4 @@
--- Laws of how long the texts of SVCB and HTTPS data are, which the functions of `src/laws.rt`
+-- Laws of how long the texts of SVCB and HTTPS data are, which the functions of `src/text_lengths.rt`
 -- state.
 use Rattle.std.specs.Prelude.{◌*◌, ◌<◌, ◌≤◌, [], ◌∷◌, ◌++◌, length}
 use Rattle.svcb_spec.specs.Params.{Pairs, IsMap, wire}

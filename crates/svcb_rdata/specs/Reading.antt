@@ -9,13 +9,13 @@ use Rattle.wire_base.specs.NameView.{NameView}
 use Rattle.wire_base.specs.RecordReading.{DataRead, read_up_to}
 
 -- record data in a message, whose target may be compressed
-pub record RecordView : Type 0 where
+pub record SvcbView : Type 0 where
   pub priority : ℕ
   pub target : NameView
   pub pairs : Pairs
 
 -- the record data that is seen
-abbrev pub record_of : RecordView → Record
+abbrev pub record_of : SvcbView → Record
 record_of view =
     record { priority = view.priority; labels = view.target.labels; pairs = view.pairs }
 

@@ -39,9 +39,9 @@ pub struct SvcbRef<'a, V> {
 impl<'a, V> Model for SvcbRef<'a, V> {
     ghost use Rattle.svcb_spec.specs.Records.{Record, IsRecord};
     ghost use Rattle.svcb_params.specs.ParamsView.{seen_params};
-    ghost use Rattle.svcb_rdata.specs.Reading.{RecordView};
+    ghost use Rattle.svcb_rdata.specs.Reading.{SvcbView};
 
-    ghost Value = { RecordView };
+    ghost Value = { SvcbView };
 
     ghost view = { λ found. record {
       priority = found.priority;

@@ -2,13 +2,13 @@
 use Rattle.std.proofs.Common.{◌≡◌, ℕ, zero, suc, ◌+◌, ◌<◌, Bool, true, false, not, List, [], ◌∷◌, ◌++◌, length, get_or, take, refl, ap, ◌∙◌, sym, arith, append_assoc, add-one, if◌then◌else◌}
 use Rattle.std.specs.List.{filter, flat_map}
 use Rattle.std.proofs.lemmas.Grind.{flat_map-append}
-use Rattle.zonemd_check.specs.RecordView.{RecordView}
+use Rattle.zonemd_check.specs.ZoneRecordView.{ZoneRecordView}
 use Rattle.zonemd_check.specs.Digesting.{is_excluded, is_repeat, fresh_behind, without_repeats, staying, record_octets, zone_octets}
 use Rattle.zonemd_check.specs.Repeats.{repeats_behind, repeats_before}
 
 -- ---- the test at a place
 
-behind_at : (before : RecordView) (records : List RecordView) (place : ℕ) (d e : RecordView)
+behind_at : (before : ZoneRecordView) (records : List ZoneRecordView) (place : ℕ) (d e : ZoneRecordView)
     → place < length records
     → repeats_behind before records place
     ≡ is_repeat (get_or (before ∷ records) place d) (get_or records place e)
@@ -17,7 +17,7 @@ behind_at before (found ∷ others) zero d e within = refl
 behind_at before (found ∷ others) (suc place) d e within =
     behind_at found others place d e (omega (arith, within))
 
-pub before_at : (records : List RecordView) (previous place : ℕ) (d e : RecordView)
+pub before_at : (records : List ZoneRecordView) (previous place : ℕ) (d e : ZoneRecordView)
     → place ≡ previous + 1 → place < length records
     → repeats_before records place
     ≡ is_repeat (get_or records previous d) (get_or records place e)
@@ -27,7 +27,7 @@ before_at (first ∷ others) previous (suc place) d e is within =
     let same : previous ≡ place = omega (arith, is) in
     rw same (behind_at first others place d e (omega (arith, within)))
 
-pub before_first : (records : List RecordView) (place : ℕ) → place ≡ 0
+pub before_first : (records : List ZoneRecordView) (place : ℕ) → place ≡ 0
     → repeats_before records place ≡ false
 before_first [] place is = refl
 before_first (first ∷ others) zero is = refl
@@ -35,21 +35,21 @@ before_first (first ∷ others) (suc place) is = absurd (omega arith)
 
 -- ---- one record more
 
-abbrev one_if : Bool → RecordView → List RecordView
+abbrev one_if : Bool → ZoneRecordView → List ZoneRecordView
 one_if true found = []
 one_if false found = found ∷ []
 
-fresh_step : (b : Bool) (found : RecordView) (xs ys : List RecordView)
+fresh_step : (b : Bool) (found : ZoneRecordView) (xs ys : List ZoneRecordView)
     → (if b then xs ++ ys else found ∷ (xs ++ ys)) ≡ (if b then xs else found ∷ xs) ++ ys
 fresh_step true found xs ys = refl
 fresh_step false found xs ys = refl
 
-fresh_none : (b : Bool) (found : RecordView)
+fresh_none : (b : Bool) (found : ZoneRecordView)
     → (if b then [] else found ∷ []) ≡ one_if b found
 fresh_none true found = refl
 fresh_none false found = refl
 
-fresh_more : (before : RecordView) (records : List RecordView) (place : ℕ) (d : RecordView)
+fresh_more : (before : ZoneRecordView) (records : List ZoneRecordView) (place : ℕ) (d : ZoneRecordView)
     → place < length records
     → fresh_behind before (take (suc place) records)
     ≡ fresh_behind before (take place records)
@@ -63,7 +63,7 @@ fresh_more before (found ∷ others) (suc place) d within =
     ∙ fresh_step b found (fresh_behind found (take place others))
     (one_if (repeats_behind found others place) (get_or others place d))
 
-without_more : (records : List RecordView) (place : ℕ) (d : RecordView) → place < length records
+without_more : (records : List ZoneRecordView) (place : ℕ) (d : ZoneRecordView) → place < length records
     → without_repeats (take (suc place) records)
     ≡ without_repeats (take place records)
     ++ one_if (repeats_before records place) (get_or records place d)
@@ -72,12 +72,12 @@ without_more (first ∷ others) zero d within = refl
 without_more (first ∷ others) (suc place) d within =
     ap (λ rest. first ∷ rest) (fresh_more first others place d (omega (arith, within)))
 
-filter_step : (b : Bool) (x : RecordView) (xs ys : List RecordView)
+filter_step : (b : Bool) (x : ZoneRecordView) (xs ys : List ZoneRecordView)
     → (if b then x ∷ (xs ++ ys) else xs ++ ys) ≡ (if b then x ∷ xs else xs) ++ ys
 filter_step true x xs ys = refl
 filter_step false x xs ys = refl
 
-filter-append : (test : RecordView → Bool) (xs ys : List RecordView)
+filter-append : (test : ZoneRecordView → Bool) (xs ys : List ZoneRecordView)
     → filter test (xs ++ ys) ≡ filter test xs ++ filter test ys
 filter-append test [] ys = refl
 filter-append test (x ∷ xs) ys =
@@ -85,7 +85,7 @@ filter-append test (x ∷ xs) ys =
     ∙ filter_step (test x) x (filter test xs) (filter test ys)
 
 -- what a list of at most one record is digested as
-octets_more : (apex : List (List ℕ)) (records : List RecordView) (place : ℕ) (d : RecordView)
+octets_more : (apex : List (List ℕ)) (records : List ZoneRecordView) (place : ℕ) (d : ZoneRecordView)
     → place < length records
     → zone_octets apex (take (place + 1) records)
     ≡ zone_octets apex (take place records)
@@ -93,7 +93,7 @@ octets_more : (apex : List (List ℕ)) (records : List RecordView) (place : ℕ)
     (one_if (repeats_before records place) (get_or records place d)))
 unfolding zone_octets
 octets_more apex records place d within =
-    let test = λ (found : RecordView). not (is_excluded apex found) in
+    let test = λ (found : ZoneRecordView). not (is_excluded apex found) in
     let one = one_if (repeats_before records place) (get_or records place d) in
     rw add-one (
     ap (λ rest. flat_map record_octets (filter test rest)) (without_more records place d within)
@@ -104,33 +104,33 @@ append_none : (xs : List ℕ) → xs ++ [] ≡ xs
 append_none [] = refl
 append_none (x ∷ xs) = ap (λ rest. x ∷ rest) (append_none xs)
 
-none_of : (test : RecordView → Bool) (b : Bool) (found : RecordView) → b ≡ true
+none_of : (test : ZoneRecordView → Bool) (b : Bool) (found : ZoneRecordView) → b ≡ true
     → flat_map record_octets (filter test (one_if b found)) ≡ []
 none_of test true found is = refl
 none_of test false found is = cc
 
-kept_of : (keep : Bool) (found : RecordView) → keep ≡ true
+kept_of : (keep : Bool) (found : ZoneRecordView) → keep ≡ true
     → flat_map record_octets (if keep then found ∷ [] else []) ≡ record_octets found
 kept_of true found is = append_none (record_octets found)
 kept_of false found is = cc
 
-left_of : (keep : Bool) (found : RecordView) → keep ≡ false
+left_of : (keep : Bool) (found : ZoneRecordView) → keep ≡ false
     → flat_map record_octets (if keep then found ∷ [] else []) ≡ []
 left_of true found is = cc
 left_of false found is = refl
 
-fresh_kept : (test : RecordView → Bool) (b : Bool) (found : RecordView) → b ≡ false
+fresh_kept : (test : ZoneRecordView → Bool) (b : Bool) (found : ZoneRecordView) → b ≡ false
     → test found ≡ true
     → flat_map record_octets (filter test (one_if b found)) ≡ record_octets found
 fresh_kept test true found is keep = cc
 fresh_kept test false found is keep = kept_of (test found) found keep
 
-all_left : (test : RecordView → Bool) (b : Bool) (found : RecordView) → test found ≡ false
+all_left : (test : ZoneRecordView → Bool) (b : Bool) (found : ZoneRecordView) → test found ≡ false
     → flat_map record_octets (filter test (one_if b found)) ≡ []
 all_left test true found keep = refl
 all_left test false found keep = left_of (test found) found keep
 
-module _ (apex : List (List ℕ)) (records : List RecordView) (place : ℕ) (d : RecordView)
+module _ (apex : List (List ℕ)) (records : List ZoneRecordView) (place : ℕ) (d : ZoneRecordView)
     (within : place < length records) where
   -- a record that stays
   pub zone_kept : repeats_before records place ≡ false
@@ -169,8 +169,8 @@ pub none_held : (apex : List (List ℕ)) (m : List ℕ) → m ++ zone_octets ape
 unfolding zone_octets
 none_held apex m = append_none m
 
-pub kept_held : (apex : List (List ℕ)) (records : List RecordView) (place : ℕ)
-    (found : RecordView) (m : List ℕ) → found ≡ get_or records place found
+pub kept_held : (apex : List (List ℕ)) (records : List ZoneRecordView) (place : ℕ)
+    (found : ZoneRecordView) (m : List ℕ) → found ≡ get_or records place found
     → place < length records → repeats_before records place ≡ false
     → is_excluded apex found ≡ false
     → (m ++ zone_octets apex (take place records)) ++ record_octets found
@@ -183,15 +183,15 @@ kept_held apex records place found m is within fresh kept =
     (ap record_octets is)
     ∙ ap (λ octets. m ++ octets) (sym (zone_kept apex records place found within fresh at))
 
-pub repeat_held : (apex : List (List ℕ)) (records : List RecordView) (place : ℕ)
-    (found : RecordView) (m : List ℕ) → place < length records
+pub repeat_held : (apex : List (List ℕ)) (records : List ZoneRecordView) (place : ℕ)
+    (found : ZoneRecordView) (m : List ℕ) → place < length records
     → repeats_before records place ≡ true
     → m ++ zone_octets apex (take place records) ≡ m ++ zone_octets apex (take (place + 1) records)
 repeat_held apex records place found m within is =
     ap (λ octets. m ++ octets) (sym (zone_repeat apex records place found within is))
 
-pub excluded_held : (apex : List (List ℕ)) (records : List RecordView) (place : ℕ)
-    (found : RecordView) (m : List ℕ) → found ≡ get_or records place found
+pub excluded_held : (apex : List (List ℕ)) (records : List ZoneRecordView) (place : ℕ)
+    (found : ZoneRecordView) (m : List ℕ) → found ≡ get_or records place found
     → place < length records → is_excluded apex found ≡ true
     → m ++ zone_octets apex (take place records) ≡ m ++ zone_octets apex (take (place + 1) records)
 excluded_held apex records place found m is within excluded =

@@ -1,11 +1,11 @@
 -- What is digested of zones that were worked out by hand. No proof cites this file.
 use Rattle.std.proofs.Common.{◌≡◌, ℕ, true, false, None, List, [], ◌∷◌, ◌++◌, refl}
 use Rattle.std.specs.Prelude.{codes}
-use Rattle.zonemd_check.specs.RecordView.{RecordView}
+use Rattle.zonemd_check.specs.ZoneRecordView.{ZoneRecordView}
 use Rattle.zonemd_check.specs.Ordering.{records_ascend}
 use Rattle.zonemd_check.specs.Digesting.{record_octets, zone_octets, zone_digest}
 
-abbrev record_of : List (List ℕ) → ℕ → ℕ → List ℕ → RecordView
+abbrev record_of : List (List ℕ) → ℕ → ℕ → List ℕ → ZoneRecordView
 record_of owner rtype ttl octets = record {
   owner = owner;
   class = 1;
@@ -23,7 +23,7 @@ abbrev b_example : List (List ℕ)
 b_example = codes "b" ∷ codes "example" ∷ []
 
 -- an address of `A.Example.`
-abbrev address : RecordView
+abbrev address : ZoneRecordView
 address = record_of (codes "A" ∷ codes "Example" ∷ []) 1 3600 (192 ∷ 0 ∷ 2 ∷ 1 ∷ [])
 
 -- ---- octets
@@ -70,7 +70,7 @@ below_the_apex = refl
 
 -- ---- algorithms and order
 
-other_algorithm : (apex : List (List ℕ)) (records : List RecordView)
+other_algorithm : (apex : List (List ℕ)) (records : List ZoneRecordView)
     → zone_digest apex records 240 ≡ None
 unfolding zone_digest
 other_algorithm apex records = refl

@@ -6,7 +6,7 @@ use Rattle.sha2.specs.Sha512.{sha384, sha512}
 use Rattle.name_spec.specs.OwnedNames.{is_same_name, lowered_wire}
 use Rattle.wire_records.specs.UnknownView.{UnknownData}
 use Rattle.wire_records.specs.UnknownComparing.{is_same_unknown}
-use Rattle.zonemd_check.specs.RecordView.{RecordView}
+use Rattle.zonemd_check.specs.ZoneRecordView.{ZoneRecordView}
 
 -- ---- which records stay
 
@@ -16,34 +16,34 @@ is_about_zonemd found =
     found.rtype == 63 || found.rtype == 46 && starts_with ◌==◌ found.octets (0 ∷ 63 ∷ [])
 
 -- a ZONEMD record of the apex or a signature over these, which no digest covers
-abbrev pub is_excluded : List (List ℕ) → RecordView → Bool
+abbrev pub is_excluded : List (List ℕ) → ZoneRecordView → Bool
 is_excluded apex found = is_about_zonemd found.record_data && is_same_name found.owner apex
 
 -- a record with the owner, type and data of the one before it, the owner's case ignored
-abbrev pub is_repeat : RecordView → RecordView → Bool
+abbrev pub is_repeat : ZoneRecordView → ZoneRecordView → Bool
 is_repeat before found =
     is_same_unknown before.record_data found.record_data && is_same_name before.owner found.owner
 
 -- the records that don't repeat the one just before them, the first of which stands behind `before`
-abbrev pub fresh_behind : RecordView → List RecordView → List RecordView
+abbrev pub fresh_behind : ZoneRecordView → List ZoneRecordView → List ZoneRecordView
 fresh_behind before [] = []
 fresh_behind before (found ∷ others) =
     if is_repeat before found then fresh_behind found others
     else found ∷ fresh_behind found others
 
-abbrev pub without_repeats : List RecordView → List RecordView
+abbrev pub without_repeats : List ZoneRecordView → List ZoneRecordView
 without_repeats [] = []
 without_repeats (first ∷ others) = first ∷ fresh_behind first others
 
 -- the records that stay: no ZONEMD record of the apex, no signature over these, no repeat
-abbrev pub staying : List (List ℕ) → List RecordView → List RecordView
+abbrev pub staying : List (List ℕ) → List ZoneRecordView → List ZoneRecordView
 staying apex records = filter (λ found. not (is_excluded apex found)) (without_repeats records)
 
 -- ---- their octets
 
 -- a record in canonical form (RFC 4034, section 6.2): owner in lower case, type, class, TTL, length
 -- of the data, data
-abbrev pub record_octets : RecordView → List ℕ
+abbrev pub record_octets : ZoneRecordView → List ℕ
 record_octets found =
     lowered_wire found.owner
     ++ bytes_high_first 2 found.record_data.rtype
@@ -53,7 +53,7 @@ record_octets found =
     ++ found.record_data.octets
 
 -- what is digested of a zone: the records that stay, joined in order
-unfoldable pub zone_octets : List (List ℕ) → List RecordView → List ℕ
+unfoldable pub zone_octets : List (List ℕ) → List ZoneRecordView → List ℕ
 zone_octets apex records = flat_map record_octets (staying apex records)
 
 -- ---- the digest
@@ -67,5 +67,5 @@ digest_by algorithm octets =
     else None
 
 -- the digest of a zone under its apex
-unfoldable pub zone_digest : List (List ℕ) → List RecordView → ℕ → Option (List ℕ)
+unfoldable pub zone_digest : List (List ℕ) → List ZoneRecordView → ℕ → Option (List ℕ)
 zone_digest apex records algorithm = digest_by algorithm (zone_octets apex records)

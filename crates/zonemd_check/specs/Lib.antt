@@ -1,4 +1,4 @@
-pub mod RecordView
+pub mod ZoneRecordView
 pub mod Ordering
 pub mod Digesting
 pub mod Repeats

@@ -3,7 +3,7 @@ use Rattle.std.specs.Prelude.{◌≡◌, ◌≢◌, ℕ, ◌==◌, ◌⊎◌, Op
 use Rattle.std.specs.Cmp.Lexicographic.{pointwise}
 use Rattle.digest_rdata.specs.declared.zonemd.ZonemdFields.{ZonemdFields}
 use Rattle.digest_rdata.specs.FieldsView.{FieldsView}
-use Rattle.zonemd_check.specs.RecordView.{RecordView}
+use Rattle.zonemd_check.specs.ZoneRecordView.{ZoneRecordView}
 use Rattle.zonemd_check.specs.Digesting.{zone_digest}
 use Rattle.zonemd_check.specs.declared.verdict.ZonemdVerdict.{ZonemdVerdict}
 use Rattle.zonemd_check.specs.declared.verdict.ZonemdVerdict.TheVariants.{Match, Mismatch, Unsupported}
@@ -16,7 +16,7 @@ verdict_of published (Some digest) =
 
 -- the verdict on a zone under its apex
 unfoldable pub zonemd_verdict :
-    List (List ℕ) → List RecordView → FieldsView ZonemdFields → ZonemdVerdict
+    List (List ℕ) → List ZoneRecordView → FieldsView ZonemdFields → ZonemdVerdict
 zonemd_verdict apex records zonemd =
     if zonemd.fields.scheme == 1
     then verdict_of zonemd.last (zone_digest apex records zonemd.fields.algorithm)
@@ -35,13 +35,13 @@ pub record IsSupported (fields : ZonemdFields) : Type 0 where
   pub algorithm : (fields.algorithm ≡ 1) ⊎ (fields.algorithm ≡ 2)
 
 -- the scheme is SIMPLE, and the zone has the published digest
-pub record HasDigest (apex : List (List ℕ)) (records : List RecordView)
+pub record HasDigest (apex : List (List ℕ)) (records : List ZoneRecordView)
     (zonemd : FieldsView ZonemdFields) : Type 0 where
   pub scheme : zonemd.fields.scheme ≡ 1
   pub is_digest : zone_digest apex records zonemd.fields.algorithm ≡ Some zonemd.last
 
 -- the scheme is SIMPLE, and the zone has another digest than the published one
-pub record HasOther (apex : List (List ℕ)) (records : List RecordView)
+pub record HasOther (apex : List (List ℕ)) (records : List ZoneRecordView)
     (zonemd : FieldsView ZonemdFields) : Type 0 where
   pub digest : List ℕ
   pub scheme : zonemd.fields.scheme ≡ 1

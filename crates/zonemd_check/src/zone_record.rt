@@ -17,9 +17,9 @@ pub struct ZoneRecord {
 }
 
 impl Model for ZoneRecord {
-    ghost use Rattle.zonemd_check.specs.RecordView.{RecordView};
+    ghost use Rattle.zonemd_check.specs.ZoneRecordView.{ZoneRecordView};
 
-    ghost Value = { RecordView };
+    ghost Value = { ZoneRecordView };
 
     ghost view = { λ found. record {
       owner = found.owner;
