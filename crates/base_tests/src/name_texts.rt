@@ -1,17 +1,14 @@
 //! The texts of names and of octets (RFC 1035, section 5.1).
 
 use crate::printed::is_printed;
-use dns_text::{Entry, EntryScanner, Scanner};
+use dns_text::name_from_text;
 use std::alloc::Global;
 use text_spec::ScanError;
 use wire_base::{Name, Octets, ParseError, PrintedOctets};
 
 /// The wire form of the name that a text's one token spells.
 fn scan_wire(alloc: Global, text: &[u8]) -> Result<Octets, ScanError> {
-    let entry = Entry::from_text(text)?;
-    let mut scanner = EntryScanner::new(entry);
-    let name = scanner.scan_name(alloc)?;
-    scanner.check_end()?;
+    let name = name_from_text(alloc, text)?;
     let octets = Octets::from_slice(alloc, name.as_slice())?;
     Ok(octets)
 }
@@ -38,6 +35,14 @@ fn names_are_scanned(rt: HostRuntime) {
         let found = scan_wire(rt.alloc(), text);
         assert!(rt; matches!(&found, Ok(octets) if octets.as_slice() == *wire));
     }
+}
+
+#[test]
+fn a_name_stands_alone(rt: HostRuntime) {
+    let two = scan_wire(rt.alloc(), b"a b");
+    assert!(rt; matches!(two, Err(ScanError::TrailingTokens)));
+    let none = scan_wire(rt.alloc(), b" ; a");
+    assert!(rt; matches!(none, Err(ScanError::EndOfEntry)));
 }
 
 /// Texts that are no names: without a label, with an empty one, a lone `@`, a label of 64 octets.

@@ -11,3 +11,4 @@ pub use svcb_params::laws as params;
 pub use svcb_rdata::laws as svcb_data;
 pub use svcb_spec::laws as svcb;
 pub use text_spec::laws as entry_texts;
+pub use zonemd_check::laws as zones;

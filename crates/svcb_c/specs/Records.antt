@@ -16,22 +16,6 @@ use Rattle.input_lines.specs.Tokens.{entry_scanned}
 use Rattle.svcb_c.specs.Statuses.{fault_status, scan_fault_status}
 use Rattle.svcb_c.specs.declared.status.TheConstants.{HW_OK, HW_E_PLACE, HW_E_TYPE}
 
--- ---- reading
-
--- that data was read
-abbrev pub IsRead : {V : Type 0} → Result V Fault → Type 0
-IsRead (Ok found) = Unit {0}
-IsRead (Err fault) = ⊥
-
--- what is answered, as `view` sees it, of data that is to reach to an end; memory is taken only
--- where data was read
-abbrev pub GivesWhole : {X V : Type 0} → (X → V) → Result X ParseError → ℕ
-    → Result (DataRead V) Fault → Type 0
-GivesWhole view (Ok x) end read = whole_data end read ≡ Ok (view x)
-GivesWhole view (Err parse.NoMemory) end read = IsRead read
-GivesWhole view (Err parse.ShortInput) end read = whole_data end read ≡ Err Short
-GivesWhole view (Err parse.Form) end read = whole_data end read ≡ Err Form
-
 -- ---- types
 
 -- The types whose data has names that are compressed or compared in lower case (RFC 3597, section

@@ -3,8 +3,8 @@
 ghost use Rattle.std.specs.Prelude.{◌≡◌, ◌≢◌, length, false};
 ghost use Rattle.record_spec.specs.UnionReading.{union_read};
 ghost use Rattle.rdata_union.specs.Views.{data_of_all};
-ghost use Rattle.rdata_union.specs.WholeData.{part_of};
-ghost use Rattle.svcb_c.specs.Records.{IsRead, has_unread_names, data_order, order_due, order_status, IsOrder, order_number};
+ghost use Rattle.rdata_union.specs.WholeData.{part_of, IsRead};
+ghost use Rattle.svcb_c.specs.Records.{has_unread_names, data_order, order_due, order_status, IsOrder, order_number};
 ghost use Rattle.svcb_c.specs.declared.status.TheConstants.{HW_OK, HW_E_MEMORY};
 
 use crate::record_types::has_unread_names;

@@ -7,10 +7,10 @@ ghost use Rattle.record_spec.specs.RecordData.{union_wire};
 ghost use Rattle.record_spec.specs.UnionReading.{union_read};
 ghost use Rattle.record_spec.specs.UnionTexts.{union_printed, union_scan};
 ghost use Rattle.rdata_union.specs.Views.{data_of_all, data_of_zone};
-ghost use Rattle.rdata_union.specs.WholeData.{part_of};
+ghost use Rattle.rdata_union.specs.WholeData.{part_of, IsRead};
 ghost use Rattle.input_lines.specs.Tokens.{entry_scanned};
 ghost use Rattle.svcb_c.specs.Buffers.{due_status, IsGiven, NeedsRoom};
-ghost use Rattle.svcb_c.specs.Records.{IsRead, has_unread_names, text_due, octets_due};
+ghost use Rattle.svcb_c.specs.Records.{has_unread_names, text_due, octets_due};
 ghost use Rattle.svcb_c.specs.declared.status.TheConstants.{HW_OK, HW_E_ROOM, HW_E_MEMORY};
 
 use crate::buffers::hand_out;

@@ -3,8 +3,7 @@
 ghost use Rattle.std.specs.Prelude.{◌≡◌, ◌+◌, ◌≤◌, length, IfOk, IsOk};
 ghost use Rattle.record_spec.specs.UnionReading.{union_read};
 ghost use Rattle.rdata_union.specs.Views.{data_of_all};
-ghost use Rattle.rdata_union.specs.WholeData.{part_of};
-ghost use Rattle.svcb_c.specs.Records.{GivesWhole};
+ghost use Rattle.rdata_union.specs.WholeData.{part_of, GivesWhole};
 
 use rdata_union::AllRecordData;
 use std::alloc::Global;
@@ -34,13 +33,5 @@ pub(crate) fn read_data(
         (union_read rtype (part_of message.now start len)) }
 {
     let mut part = part(message, start, len)?;
-    match AllRecordData::parse_any_rdata(alloc, rtype, &mut part) {
-        Ok(found) => {
-            if part.remaining() > 0 {
-                return Err(ParseError::Form);
-            }
-            Ok(found)
-        }
-        Err(error) => Err(error),
-    }
+    AllRecordData::parse_whole(alloc, rtype, &mut part)
 }

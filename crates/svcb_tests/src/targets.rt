@@ -1,5 +1,6 @@
 //! Record data within a message, with a compressed target and without one.
 
+use crate::printed::is_printed;
 use std::alloc::Global;
 use svcb_rdata::{RebuildError, SvcbRef, SvcbVariant, rebuild_svcb};
 use wire_base::{NoMemory, ParseError, Parser};
@@ -11,7 +12,7 @@ const TARGETS: [(&[u8], usize, bool); 3] = [
     (b"\x00\x00\x01\x03FoO\xc0\x00", 1, true),
 ];
 
-/// Whether the target of the record data at a place is FoO, compressed or not as is said.
+/// Whether the target of the record data at a place is FoO, compressed or not as is said, and is printed uncompressed.
 fn is_target(
     alloc: Global,
     message: &[u8],
@@ -23,7 +24,8 @@ fn is_target(
     let found: SvcbRef<'_, SvcbVariant> = SvcbRef::parse(&mut parser)?;
     let owned = found.to_owned_data(alloc)?;
     let is_same = owned.target().as_slice() == b"\x03FoO\x00".as_slice();
-    Ok(is_same && found.target().is_compressed() == is_compressed)
+    let is_text = is_printed(alloc, &found, "1 FoO. ")?;
+    Ok(is_same && is_text && found.target().is_compressed() == is_compressed)
 }
 
 #[test]
