@@ -16,6 +16,15 @@ pub fn asked_name(alloc: Global, message: &Message<'_>) -> Result<Name> {
     Ok(question.qname().to_name(alloc)?)
 }
 
+/// The name that the aliases of the name asked for lead to, whose records are the answer.
+pub fn canonical_name(alloc: Global, message: &Message<'_>, asked: Name) -> Result<Name> {
+    let target = message.canonical_name(&asked).context("following aliases")?;
+    match target {
+        Some(name) => Ok(name.to_name(alloc)?),
+        None => Ok(asked),
+    }
+}
+
 /// The HTTPS records of an owner in an answer, kept as text and read again, by ascending priorities; records of one
 /// priority as they stand.
 pub fn https_records(alloc: Global, message: &Message<'_>, owner: &Name) -> Result<Vec<Https>> {

@@ -7,7 +7,7 @@ mod cache;
 mod endpoint;
 mod weight;
 
-use answer::{asked_name, https_records};
+use answer::{asked_name, canonical_name, https_records};
 use anyhow::{Context, Result, bail};
 use endpoint::Endpoint;
 use hollywhist::base::message::Message;
@@ -62,7 +62,8 @@ fn main(rt: HostRuntime) -> Result<()> {
     rt.read_line(&mut line)?;
     let octets = hex::decode(alloc, line.trim())?;
     let message = Message::from_octets(&octets).context("reading the header")?;
-    let owner = asked_name(alloc, &message)?;
+    let asked = asked_name(alloc, &message)?;
+    let owner = canonical_name(alloc, &message, asked)?;
     let records = https_records(alloc, &message, &owner)?;
     if !priorities_ascend(&records) {
         bail!("records in disorder");
