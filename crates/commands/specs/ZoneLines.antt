@@ -1,5 +1,5 @@
 -- Lines that are records of a zone.
-use Rattle.std.specs.Prelude.{ℕ, ◌^◌, nat_le, nat_lt, if◌then◌else◌, Option, List, [], length}
+use Rattle.std.specs.Prelude.{ℕ, ◌^◌, nat_lt, if◌then◌else◌, Option, List, [], length}
 use Rattle.std.specs.Result.{result_ok}
 use Rattle.text_spec.specs.declared.errors.ScanError.TheVariants.{BadBase16, TrailingTokens}
 use Rattle.text_spec.specs.Encodings.{base16_of}

@@ -3,15 +3,12 @@ use Rattle.std.specs.Prelude.{◌≡◌, ℕ, ◌+◌, Bool, ◌==◌, List, [],
 use Rattle.std.specs.List.{list_any}
 use Rattle.std.specs.declared.cmp.Ordering.{Ordering}
 use Rattle.std.specs.declared.cmp.Ordering.TheVariants.{Less, Equal, Greater}
-use Rattle.name_spec.specs.Octets.{Fault, Short, Form}
+use Rattle.name_spec.specs.Octets.{Fault}
 use Rattle.name_spec.specs.CanonicalOrder.{canonical_order}
-use Rattle.wire_base.specs.RecordReading.{DataRead}
-use Rattle.wire_base.specs.declared.errors.ParseError.{ParseError}
-use Rattle.wire_base.specs.declared.errors.ParseError.TheVariants as parse
 use Rattle.text_spec.specs.declared.errors.ScanError.{ScanError}
 use Rattle.record_spec.specs.RecordData.{RecordData, rtype_of, union_wire}
 use Rattle.record_spec.specs.UnionTexts.{union_scan, union_printed}
-use Rattle.rdata_union.specs.WholeData.{whole_data, data_in}
+use Rattle.rdata_union.specs.WholeData.{data_in}
 use Rattle.input_lines.specs.Tokens.{entry_scanned}
 use Rattle.svcb_c.specs.Statuses.{fault_status, scan_fault_status}
 use Rattle.svcb_c.specs.declared.status.TheConstants.{HW_OK, HW_E_PLACE, HW_E_TYPE}

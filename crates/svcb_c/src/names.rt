@@ -9,7 +9,7 @@ ghost use Rattle.svcb_c.specs.declared.status.TheConstants.{HW_OK, HW_E_ROOM, HW
 use crate::buffers::hand_out;
 use crate::faults::read_status;
 use crate::status::{HW_E_MEMORY, HW_S_BAD_NAME};
-use input_lines::tokens::lone_name;
+use dns_text::name_from_text;
 use std::alloc::Global;
 use text_spec::ScanError;
 use wire_base::{Name, NoMemory, Octets};
@@ -64,7 +64,7 @@ pub extern "C" fn hw_name_scan(
     ensures room { result ≡ HW_E_ROOM → NeedsRoom (name_octets_due text.now) written.new }
     ensures kept { result ≢ HW_OK → target.new ≡ target.old }
 {
-    match lone_name(alloc, text) {
+    match name_from_text(alloc, text) {
         Ok(name) => hand_out(name.as_slice(), target, written),
         Err(ScanError::NoMemory) => HW_E_MEMORY,
         Err(_) => HW_S_BAD_NAME,

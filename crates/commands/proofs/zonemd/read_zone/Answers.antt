@@ -1,6 +1,5 @@
 -- There are at most as many lines as octets, and one.
-use Rattle.std.proofs.Common.{◌≡◌, ◌-◌, ◌≤◌, length, length-drop, ap, ◌∙◌, arith}
-use Rattle.input_lines.specs.Lines.{lines}
+use Rattle.std.proofs.Common.{length, length-drop, ap, arith}
 use Rattle.input_lines.proofs.LineLemmas.{length-lines}
 use Rattle.commands.proofs.zonemd.read_zone.Goals as goal
 
