@@ -20,6 +20,8 @@ mod name_texts;
 #[cfg(test)]
 mod names;
 #[cfg(test)]
+mod number_copies;
+#[cfg(test)]
 mod numbers;
 #[cfg(test)]
 mod own_scanner;
